@@ -1,0 +1,42 @@
+-- The whole reading of a sheet, in the order of 01's table.
+use mathlib.Core.List.{List, []}
+use mathlib.Core.Option.{Option, none, some}
+use mathlib.Core.Path.{_≡_}
+use Prim.Native.Nat.{ℕ}
+use Rattle.sheet.specs.declared.Code.{Code}
+use Rattle.sheet.specs.declared.Refusal.{Refusal}
+use Rattle.sheet.specs.Record.{generators, emptyCode}
+use Rattle.sheet.specs.Reader.{Parsed, got, stop, readForm}
+use Rattle.stabilizer.specs.Checks.{_then_, generatorFault}
+use Rattle.admission.specs.declared.Admission.{Admission}
+use Rattle.admission.specs.declared.Reading.{Reading}
+use Rattle.admission.specs.Logicals.{detectedFault, pairingFault}
+use Rattle.admission.specs.Distance.{claimedWeightFault, claimedDetectedFault, claimedInGroupFault, distanceFault}
+
+-- 01: "Once the sheet is read, 6 to 14 run in table order": 6 to 13, and 14.
+unfoldable pub faultButDistance : Code → Option Refusal
+faultButDistance c =
+    generatorFault (generators c) then detectedFault c then pairingFault c then claimedWeightFault c
+    then claimedDetectedFault c then claimedInGroupFault c
+
+unfoldable pub codeFault : Code → Option Refusal
+codeFault c = faultButDistance c then distanceFault c
+
+unfoldable pub refusedReading : Refusal → Reading
+refusedReading refusal = record { answer = Admission.Refused refusal; code = emptyCode }
+
+unfoldable pub admitted : Code → Reading
+admitted c = record { answer = Admission.Admitted; code = c }
+
+-- A sheet read by itself.
+unfoldable pub readSheet : List ℕ → Reading
+readSheet s =
+    elim (readForm s) [
+      | stop refusal ↦ refusedReading refusal
+      | got c rest ↦ elim (codeFault c) [ some refusal ↦ refusedReading refusal | none ↦ admitted c ]
+    ]
+
+-- 01: "A sheet is lawful in all else if, read by itself, no check other than 14 faults it." c is the record that it is read to.
+pub record LawfulButForDistance (s : List ℕ) (c : Code) : Type 0 where
+  pub form : readForm s ≡ got c []
+  pub checks : faultButDistance c ≡ none

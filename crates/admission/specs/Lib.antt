@@ -1,0 +1,4 @@
+pub mod Logicals
+pub mod Distance
+pub mod Admission
+pub mod Opened

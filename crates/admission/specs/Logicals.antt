@@ -1,0 +1,46 @@
+-- The checks of the x and z rows, 9 and 10.
+use mathlib.Core.Bool.{Bool, false, cond, _||_}
+use mathlib.Core.List.{List, [], _∷_, _++_}
+use mathlib.Core.Option.{Option}
+use Prim.Native.Nat.{ℕ, suc, _+_}
+use lib.Dec.{eqb, ltb}
+use lib.ListN.{length}
+use Rattle.pauli.specs.declared.Pauli.{Pauli}
+use Rattle.pauli.specs.Lists.{anyOf}
+use Rattle.pauli.specs.Product.{commutes, anticommutes}
+use Rattle.sheet.specs.declared.Code.{Code}
+use Rattle.sheet.specs.declared.Family.{Family}
+use Rattle.sheet.specs.declared.Refusal.{Refusal}
+use Rattle.sheet.specs.Record.{generators, logicalCount, logicalXs, logicalZs, logicalLine}
+use Rattle.stabilizer.specs.Checks.{firstFault, refuseIf}
+
+-- The x rows, then the z rows, as their lines follow each other. The rows before one tell its place, and so its family.
+unfoldable pub logicals : Code → List Pauli
+logicals c = logicalXs c ++ logicalZs c
+
+unfoldable pub familyAfter : ℕ → List Pauli → Family
+familyAfter k before = cond (ltb (length before) k) Family.LogicalX Family.LogicalZ
+
+-- 9: "anticommutes with a g row"
+unfoldable pub detected : Code → List Pauli → ℕ → Pauli → Option Refusal
+detected c before at P =
+    refuseIf (anyOf (anticommutes P) (generators c)) (Refusal.LogicalAnticommutes at (familyAfter (logicalCount c) before))
+
+-- Whether one of the earlier rows, which stand at the places j, j + 1, .., pairs wrongly with the row P at the place m: "anticommutes
+-- where it is not its own partner, or commutes where it is (x i and z i are partners)".
+unfoldable pub pairsWrongly : ℕ → ℕ → ℕ → List Pauli → Pauli → Bool
+pairsWrongly k m j [] P = false
+pairsWrongly k m j (Q ∷ earlier) P =
+    cond (eqb m (j + k)) (commutes P Q) (anticommutes P Q) || pairsWrongly k m (suc j) earlier P
+
+-- 10: "with some earlier x or z row: .."
+unfoldable pub mispaired : Code → List Pauli → ℕ → Pauli → Option Refusal
+mispaired c before at P =
+    refuseIf (pairsWrongly (logicalCount c) (length before) 0 before P)
+    (Refusal.LogicalPairing at (familyAfter (logicalCount c) before))
+
+unfoldable pub detectedFault : Code → Option Refusal
+detectedFault c = firstFault (detected c) [] (logicalLine c) (logicals c)
+
+unfoldable pub pairingFault : Code → Option Refusal
+pairingFault c = firstFault (mispaired c) [] (logicalLine c) (logicals c)

@@ -1,0 +1,14 @@
+// Admission: the whole reading of a sheet.
+use sheet::Code;
+use sheet::Refusal;
+
+pub enum Admission {
+    Admitted,
+    Refused(Refusal),
+}
+
+// An enum holds no array, so the record stands beside the answer: all numbers 0 and all rows +I where it is a refusal.
+pub struct Reading {
+    pub answer: Admission,
+    pub code: Code,
+}

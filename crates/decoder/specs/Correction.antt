@@ -1,0 +1,44 @@
+-- Corrections.
+use mathlib.Core.Bool.{Bool, cond}
+use mathlib.Core.List.{List, map}
+use mathlib.Core.Option.{Option, none, some}
+use Prim.Native.Nat.{ℕ}
+use lib.Dec.{leb}
+use lib.ListN.{length}
+use Rattle.pauli.specs.Lists.{firstOf}
+use Rattle.pauli.specs.Letters.{Letter, ofLetters, letterByte}
+use Rattle.pauli.specs.Order.{stringsUpTo}
+use Rattle.sheet.specs.declared.Code.{Code}
+use Rattle.sheet.specs.declared.Refusal.{Refusal}
+use Rattle.sheet.specs.Record.{generators, radius, withinLimits}
+use Rattle.sheet.specs.Text.{After, laid, untouched}
+use Rattle.decoder.specs.declared.Decoded.{Decoded}
+use Rattle.decoder.specs.Syndrome.{syndrome, sameBits, readSyndrome}
+
+unfoldable pub hasSyndrome : Code → List Bool → List Letter → Bool
+hasSyndrome c bits s = sameBits (syndrome (generators c) (ofLetters s)) bits
+
+-- 01: "the correction is the earliest Pauli of weight at most t with the given syndrome".
+unfoldable pub correction : Code → List Bool → Option (List Letter)
+correction c bits = firstOf (hasSyndrome c bits) (stringsUpTo (c .n) (radius c))
+
+-- 01: "If there is none the answer is `none` and the buffer is untouched; otherwise its first n bytes are the letters and the rest
+-- stays."
+unfoldable pub corrected : Code → List Bool → List ℕ → After Decoded
+corrected c bits buffer =
+    elim (correction c bits) [
+      | some s ↦ record { answer = Decoded.Correction; buffer = laid (map letterByte s) buffer }
+      | none ↦ untouched Decoded.None buffer
+    ]
+
+-- The decode call: 15, then 16 with line 0, then 17. 01: "For 17 a decode's answer counts as n bytes, even where it would be `none`."
+unfoldable pub decode : Code → List ℕ → List ℕ → After Decoded
+decode c characters buffer =
+    cond (withinLimits c)
+    (elim (readSyndrome (c .r) characters) [
+      | none ↦ untouched (Decoded.Refused (Refusal.Syndrome 0)) buffer
+      | some bits ↦
+          cond (leb (c .n) (length buffer)) (corrected c bits buffer)
+          (untouched (Decoded.Refused Refusal.ShortBuffer) buffer)
+    ])
+    (untouched (Decoded.Refused Refusal.RecordLimits) buffer)

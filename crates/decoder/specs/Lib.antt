@@ -1,0 +1,3 @@
+pub mod Syndrome
+pub mod Correction
+pub mod Opened

@@ -1,0 +1,50 @@
+-- Syndromes.
+use mathlib.Core.Bool.{Bool, true, false, cond, _&&_, Bool·beq}
+use mathlib.Core.List.{List, [], _∷_, map}
+use mathlib.Core.Option.{Option, none, some}
+use Prim.Native.Nat.{ℕ}
+use Prim.Native.Char.{code}
+use lib.Dec.{eqb, leb}
+use lib.ListN.{length}
+use Rattle.pauli.specs.declared.Pauli.{Pauli}
+use Rattle.pauli.specs.Product.{anticommutes}
+use Rattle.sheet.specs.declared.Code.{Code}
+use Rattle.sheet.specs.declared.Refusal.{Refusal}
+use Rattle.sheet.specs.Record.{generators, withinLimits}
+use Rattle.sheet.specs.Reader.{readEach}
+use Rattle.sheet.specs.Text.{After, laid, untouched}
+use Rattle.decoder.specs.declared.SyndromeAnswer.{SyndromeAnswer}
+
+-- 01: "The syndrome of a Pauli has one bit for each g row, in sheet order: 1 if they anticommute."
+unfoldable pub syndrome : List Pauli → Pauli → List Bool
+syndrome rows P = map (λ g. anticommutes g P) rows
+
+unfoldable pub sameBits : List Bool → List Bool → Bool
+sameBits [] [] = true
+sameBits [] (c ∷ cs) = false
+sameBits (b ∷ bs) [] = false
+sameBits (b ∷ bs) (c ∷ cs) = Bool·beq b c && sameBits bs cs
+
+-- A bit as a character 0 or 1.
+unfoldable pub bitByte : Bool → ℕ
+bitByte false = code "0"
+bitByte true = code "1"
+
+unfoldable pub readBit : ℕ → Option Bool
+readBit c = cond (eqb c (code "0")) (some false) (cond (eqb c (code "1")) (some true) none)
+
+unfoldable pub syndromeText : List Bool → List ℕ
+syndromeText bits = map bitByte bits
+
+-- 16: "not exactly r characters 0 or 1"
+unfoldable pub readSyndrome : ℕ → List ℕ → Option (List Bool)
+readSyndrome r cs = cond (eqb (length cs) r) (readEach readBit cs) none
+
+-- 01: "A call gives it as r characters 0 or 1 in the buffer's first r bytes; the rest stays." 15, then 17.
+unfoldable pub writeSyndrome : Code → Pauli → List ℕ → After SyndromeAnswer
+writeSyndrome c P buffer =
+    cond (withinLimits c)
+    (cond (leb (c .r) (length buffer))
+    (record { answer = SyndromeAnswer.Given; buffer = laid (syndromeText (syndrome (generators c) P)) buffer })
+    (untouched (SyndromeAnswer.Refused Refusal.ShortBuffer) buffer))
+    (untouched (SyndromeAnswer.Refused Refusal.RecordLimits) buffer)

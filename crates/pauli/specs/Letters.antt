@@ -1,0 +1,104 @@
+-- Letters and signs: how a Pauli is written.
+use mathlib.Core.Bool.{Bool, cond, _||_}
+use mathlib.Core.List.{List, [], _∷_, map}
+use mathlib.Core.Option.{Option, none, some}
+use Prim.Native.Nat.{ℕ, zero, suc, _+_, _*_, _/_, _%_}
+use Prim.Native.Char.{code}
+use lib.Dec.{eqb}
+use Rattle.pauli.specs.declared.Pauli.{Pauli}
+use Rattle.pauli.specs.Masks.{dot}
+use Rattle.pauli.specs.Product.{hasPhase}
+
+pub data Letter : Type 0 where
+  I X Y Z : Letter
+
+-- 01: "A letter is chosen by its mask bits: I 00, X 10, Z 01, Y 11."
+unfoldable pub letterAt : ℕ → ℕ → Letter
+letterAt zero zero = I
+letterAt (suc a) zero = X
+letterAt zero (suc b) = Z
+letterAt (suc a) (suc b) = Y
+
+-- The same from the letter's side: its bit in the X mask, and in the Z mask.
+unfoldable pub xBit : Letter → ℕ
+xBit I = 0
+xBit X = 1
+xBit Y = 1
+xBit Z = 0
+
+unfoldable pub zBit : Letter → ℕ
+zBit I = 0
+zBit X = 0
+zBit Y = 1
+zBit Z = 1
+
+-- The n letters of two masks, and of a Pauli; qubit 1 first.
+unfoldable pub lettersAt : ℕ → ℕ → ℕ → List Letter
+lettersAt zero a b = []
+lettersAt (suc n) a b = letterAt (a % 2) (b % 2) ∷ lettersAt n (a / 2) (b / 2)
+
+unfoldable pub lettersOf : ℕ → Pauli → List Letter
+lettersOf n P = lettersAt n (P .a) (P .b)
+
+-- The masks of a string of letters.
+unfoldable pub xMask : List Letter → ℕ
+xMask [] = 0
+xMask (l ∷ ls) = xBit l + 2 * xMask ls
+
+unfoldable pub zMask : List Letter → ℕ
+zMask [] = 0
+zMask (l ∷ ls) = zBit l + 2 * zMask ls
+
+pub data Sign : Type 0 where
+  plus minus : Sign
+
+unfoldable pub signPhase : Sign → ℕ
+signPhase plus = 0
+signPhase minus = 2
+
+-- 01: "A signed row, + or -, has p = a·b (modulo 4), plus 2 for -."
+unfoldable pub rowPhase : Sign → ℕ → ℕ → ℕ
+rowPhase s a b = (dot a b + signPhase s) % 4
+
+unfoldable pub signedRow : Sign → List Letter → Pauli
+signedRow s ls = record { p = rowPhase s (xMask ls) (zMask ls); a = xMask ls; b = zMask ls }
+
+-- A string of letters as a Pauli, with sign +.
+unfoldable pub ofLetters : List Letter → Pauli
+ofLetters ls = signedRow plus ls
+
+unfoldable pub hasSign : Sign → Pauli → Bool
+hasSign s P = hasPhase (rowPhase s (P .a) (P .b)) P
+
+unfoldable pub isSignedRow : Pauli → Bool
+isSignedRow P = hasSign plus P || hasSign minus P
+
+-- The sign of a signed row.
+unfoldable pub signOf : Pauli → Sign
+signOf P = cond (hasSign plus P) plus minus
+
+-- Letters and signs as bytes.
+unfoldable pub letterByte : Letter → ℕ
+letterByte I = code "I"
+letterByte X = code "X"
+letterByte Y = code "Y"
+letterByte Z = code "Z"
+
+unfoldable pub readLetter : ℕ → Option Letter
+readLetter c =
+    cond (eqb c (code "I")) (some I)
+    (cond (eqb c (code "X")) (some X) (cond (eqb c (code "Y")) (some Y) (cond (eqb c (code "Z")) (some Z) none)))
+
+unfoldable pub signByte : Sign → ℕ
+signByte plus = code "+"
+signByte minus = code "-"
+
+unfoldable pub readSign : ℕ → Option Sign
+readSign c = cond (eqb c (code "+")) (some plus) (cond (eqb c (code "-")) (some minus) none)
+
+-- The n letters of a Pauli as bytes, as w and a correction are written, and with the sign first, as a row is.
+unfoldable pub letterText : ℕ → Pauli → List ℕ
+letterText n P = map letterByte (lettersOf n P)
+
+unfoldable pub rowText : ℕ → Pauli → List ℕ
+rowText n P = signByte (signOf P) ∷ letterText n P

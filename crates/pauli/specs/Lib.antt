@@ -1,0 +1,6 @@
+pub mod Lists
+pub mod Masks
+pub mod Product
+pub mod Letters
+pub mod Order
+pub mod Opened

@@ -1,0 +1,28 @@
+-- Three searches through a list, each of which stops at the first element that settles it, and the bytes of a text.
+use mathlib.Core.Bool.{Bool, true, false}
+use mathlib.Core.List.{List, [], _∷_}
+use mathlib.Core.Option.{Option, none, some}
+use Prim.Native.Nat.{ℕ}
+use Prim.Native.Char.{code}
+use Prim.Native.String.{String, [] as ε, _∷_ as _▸_}
+
+module _ {A : Type 0} where
+  -- the first element that passes the test
+  unfoldable pub firstOf : (A → Bool) → List A → Option A
+  firstOf test [] = none
+  firstOf test (x ∷ xs) = elim (test x) [ true ↦ some x | false ↦ firstOf test xs ]
+
+  -- some element passes the test
+  unfoldable pub anyOf : (A → Bool) → List A → Bool
+  anyOf test [] = false
+  anyOf test (x ∷ xs) = elim (test x) [ true ↦ true | false ↦ anyOf test xs ]
+
+  -- every element passes the test
+  unfoldable pub allOf : (A → Bool) → List A → Bool
+  allOf test [] = true
+  allOf test (x ∷ xs) = elim (test x) [ true ↦ allOf test xs | false ↦ false ]
+
+-- The bytes of a text of plain characters: a character's byte is its code.
+unfoldable pub bytes : String → List ℕ
+bytes ε = []
+bytes (c ▸ s) = code c ∷ bytes s

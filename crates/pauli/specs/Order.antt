@@ -1,0 +1,46 @@
+-- The order "earlier" on strings of letters, and all strings of a weight in that order.
+-- 01: "'Earlier' means smaller weight, then, at the first qubit where two strings differ, the smaller letter in I, X, Y, Z."
+use mathlib.Core.Path.{_≡_}
+use mathlib.Core.Logic.{_⊎_}
+use mathlib.Core.List.{List, [], _∷_, _++_, map}
+use Prim.Native.Nat.{ℕ, zero, suc, _<_}
+use Rattle.pauli.specs.Letters.{Letter, I, X, Y, Z}
+
+-- The letters I, X, Y, Z in their order.
+unfoldable pub rank : Letter → ℕ
+rank I = 0
+rank X = 1
+rank Y = 2
+rank Z = 3
+
+-- 01: "The weight counts the letters other than I."
+unfoldable pub weightOf : List Letter → ℕ
+weightOf [] = 0
+weightOf (I ∷ ls) = weightOf ls
+weightOf (X ∷ ls) = suc (weightOf ls)
+weightOf (Y ∷ ls) = suc (weightOf ls)
+weightOf (Z ∷ ls) = suc (weightOf ls)
+
+-- At the first qubit where the two strings differ, the first has the smaller letter.
+unfoldable pub SmallerLetter : List Letter → List Letter → Type 0
+SmallerLetter [] [] = ⊥
+SmallerLetter [] (m ∷ ms) = ⊥
+SmallerLetter (l ∷ ls) [] = ⊥
+SmallerLetter (l ∷ ls) (m ∷ ms) = (rank l < rank m) ⊎ ((l ≡ m) × SmallerLetter ls ms)
+
+unfoldable pub Earlier : List Letter → List Letter → Type 0
+Earlier s t = (weightOf s < weightOf t) ⊎ ((weightOf s ≡ weightOf t) × SmallerLetter s t)
+
+-- All strings of n letters with weight v, the earliest first: the strings that begin with I, then with X, Y, Z.
+unfoldable pub strings : ℕ → ℕ → List (List Letter)
+strings zero zero = [] ∷ []
+strings zero (suc v) = []
+strings (suc n) zero = map (λ s. I ∷ s) (strings n zero)
+strings (suc n) (suc v) =
+    map (λ s. I ∷ s) (strings n (suc v)) ++ map (λ s. X ∷ s) (strings n v) ++ map (λ s. Y ∷ s) (strings n v)
+    ++ map (λ s. Z ∷ s) (strings n v)
+
+-- All strings of n letters with weight at most t, the earliest first.
+unfoldable pub stringsUpTo : ℕ → ℕ → List (List Letter)
+stringsUpTo n zero = strings n zero
+stringsUpTo n (suc t) = stringsUpTo n t ++ strings n (suc t)

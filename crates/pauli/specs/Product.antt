@@ -1,0 +1,39 @@
+-- Paulis with phase: product, commutation, weight.
+use mathlib.Core.Bool.{Bool, not, _&&_}
+use Prim.Native.Nat.{ℕ, _+_, _*_, _%_}
+use lib.Bits.{bitXor, bitOr}
+use lib.Dec.{eqb}
+use Rattle.pauli.specs.declared.Pauli.{Pauli}
+use Rattle.pauli.specs.Masks.{countOnes, dot}
+
+-- The Pauli I.
+unfoldable pub identity : Pauli
+identity = record { p = 0; a = 0; b = 0 }
+
+-- 01: "The product of (p,a,b) and (p',a',b') has phase p + p' + 2(b·a') modulo 4 and masks a+a', b+b' bit by bit."
+unfoldable pub product : Pauli → Pauli → Pauli
+product P Q =
+    record { p = (P .p + Q .p + 2 * dot (P .b) (Q .a)) % 4; a = bitXor (P .a) (Q .a); b = bitXor (P .b) (Q .b) }
+
+-- 01: "Two Paulis commute if a·b' + a'·b is even, else they anticommute."
+unfoldable pub commutes : Pauli → Pauli → Bool
+commutes P Q = eqb ((dot (P .a) (Q .b) + dot (Q .a) (P .b)) % 2) 0
+
+unfoldable pub anticommutes : Pauli → Pauli → Bool
+anticommutes P Q = not (commutes P Q)
+
+-- 01: "The weight counts the letters other than I": the qubits at which either mask has a one.
+unfoldable pub weight : Pauli → ℕ
+weight P = countOnes (bitOr (P .a) (P .b))
+
+-- 01: "Phase aside, two Paulis are the same when their masks are."
+unfoldable pub sameMasks : Pauli → Pauli → Bool
+sameMasks P Q = eqb (P .a) (Q .a) && eqb (P .b) (Q .b)
+
+-- 01: "A phase is read modulo 4."
+unfoldable pub hasPhase : ℕ → Pauli → Bool
+hasPhase q P = eqb (P .p % 4) (q % 4)
+
+-- The same Pauli, phase and masks.
+unfoldable pub samePauli : Pauli → Pauli → Bool
+samePauli P Q = hasPhase (Q .p) P && sameMasks P Q

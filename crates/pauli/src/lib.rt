@@ -1,0 +1,9 @@
+// Paulis with phase, by value.
+
+// i^p D(a, b): the phase p is read modulo 4, a is the X part and b the Z part.
+// Qubit j is bit j - 1 of both masks.
+pub struct Pauli {
+    pub p: u32,
+    pub a: u32,
+    pub b: u32,
+}

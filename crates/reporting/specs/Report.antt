@@ -1,0 +1,76 @@
+-- The report as a function from bytes to bytes.
+use mathlib.Core.Bool.{Bool}
+use mathlib.Core.List.{List, [], _∷_, _++_, map, flatMap}
+use mathlib.Core.Option.{Option, none, some}
+use Prim.Native.Nat.{ℕ, zero, suc, _+_}
+use lib.ListN.{length}
+use Rattle.pauli.specs.Lists.{bytes}
+use Rattle.pauli.specs.Letters.{Letter, letterByte, letterText}
+use Rattle.sheet.specs.declared.Code.{Code}
+use Rattle.sheet.specs.declared.ErrorPair.{ErrorPair}
+use Rattle.sheet.specs.declared.Refusal.{Refusal}
+use Rattle.sheet.specs.declared.Written.{Written}
+use Rattle.sheet.specs.Refusals.{values}
+use Rattle.sheet.specs.Record.{logicalCount, radius, claimedLine}
+use Rattle.sheet.specs.Text.{line, decimal, After, written}
+use Rattle.sheet.specs.Reader.{Reader, got, stop, continue, done, _>>=_, readLine, readLines}
+use Rattle.stabilizer.specs.Canonical.{canonicalText}
+use Rattle.admission.specs.Admission.{codeFault}
+use Rattle.decoder.specs.Syndrome.{readSyndrome}
+use Rattle.decoder.specs.Correction.{correction}
+
+-- 01: "for 14 `e=` and `f=` (E and F as letters)"
+unfoldable pub errorsText : Option ErrorPair → List ℕ
+errorsText none = []
+errorsText (some pair) = line "e=" (letterText (pair .n) (pair .e)) ++ line "f=" (letterText (pair .n) (pair .f))
+
+-- 01: "A refused input gives only the lines `r=` with the number, `at=` with the line named, and for 14 `e=` and `f=`."
+unfoldable pub refusalText : Refusal → List ℕ
+refusalText refusal =
+    let v = values refusal in
+    line "r=" (decimal (v .number)) ++ line "at=" (decimal (v .line)) ++ errorsText (v .errors)
+
+-- 16: "in a report, a line behind w that is not `s=`, those r characters and a line feed"
+unfoldable pub syndromeLine : Code → ℕ → Reader (List Bool)
+syndromeLine c at = readLine "s=" (c .r) (readSyndrome (c .r)) (Refusal.Syndrome at)
+
+-- The `s=` lines from the line `at` on, to the end of the input. A line has a byte at least, so as many lines as bytes are enough.
+unfoldable pub syndromeLines : ℕ → Code → ℕ → Reader (List (List Bool))
+syndromeLines zero c at [] = got [] []
+syndromeLines zero c at (b ∷ s) = stop (Refusal.Syndrome at)
+syndromeLines (suc most) c at [] = got [] []
+syndromeLines (suc most) c at (b ∷ s) =
+    continue (syndromeLine c at (b ∷ s)) (λ bits. syndromeLines most c (at + 1) >>= λ later. done (bits ∷ later))
+
+unfoldable pub correctionValue : Option (List Letter) → List ℕ
+correctionValue none = bytes "none"
+correctionValue (some s) = map letterByte s
+
+-- 01: "one `c=` for each syndrome (letters, or `none`)"
+unfoldable pub correctionLine : Code → List Bool → List ℕ
+correctionLine c bits = line "c=" (correctionValue (correction c bits))
+
+-- 01: "Lines, each closed by a line feed and with no leading zeros: `n=`, `k=`, `d=`, `t=`, one `h=` for each tidy row, one `c=` for each
+-- syndrome."
+unfoldable pub codeText : Code → List ℕ
+codeText c =
+    line "n=" (decimal (c .n)) ++ line "k=" (decimal (logicalCount c)) ++ line "d=" (decimal (c .d))
+    ++ line "t=" (decimal (radius c)) ++ canonicalText c
+
+unfoldable pub syndromesText : Code → List ℕ → List ℕ
+syndromesText c rest =
+    elim (syndromeLines (length rest) c (claimedLine c + 1) rest)
+    [ stop refusal ↦ refusalText refusal | got all end ↦ codeText c ++ flatMap (correctionLine c) all ]
+
+-- 01: "Reports read a sheet and then any number of `s=` lines": the lines of the sheet, 6 to 14, "then, in a report, 16 line by line".
+unfoldable pub reportText : List ℕ → List ℕ
+reportText s =
+    elim (readLines s) [
+      | stop refusal ↦ refusalText refusal
+      | got c rest ↦ elim (codeFault c) [ some refusal ↦ refusalText refusal | none ↦ syndromesText c rest ]
+    ]
+
+-- 01: "A report .. return[s] the count of bytes written", and "a report writes refusals 1 to 14 and 16 as text; where that text is
+-- longer than the buffer, 17 is the answer and nothing is written."
+unfoldable pub writeReport : List ℕ → List ℕ → After Written
+writeReport s buffer = written (reportText s) buffer

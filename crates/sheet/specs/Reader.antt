@@ -1,0 +1,154 @@
+-- The sheet as a function from bytes to an answer.
+-- 01: "After each line the rest of the sheet, from the byte after its line feed, goes to the reader of the next line. A line
+-- that fails its form ends the reading there; so does input that stops before the line feed."
+use mathlib.Core.Bool.{Bool, true, false, cond, _&&_}
+use mathlib.Core.List.{List, [], _∷_, foldl}
+use mathlib.Core.Option.{Option, none, some, Option·map, bind}
+use Prim.Native.Nat.{ℕ, zero, suc, _+_, _-_, _*_}
+use Prim.Native.Char.{code}
+use Prim.Native.String.{String}
+use lib.Dec.{eqb, leb, ltb}
+use lib.ListN.{length, take, drop, getD}
+use Rattle.pauli.specs.declared.Pauli.{Pauli}
+use Rattle.pauli.specs.Lists.{bytes}
+use Rattle.pauli.specs.Letters.{Sign, readSign, readLetter, signedRow, ofLetters}
+use Rattle.sheet.specs.declared.Code.{Code}
+use Rattle.sheet.specs.declared.Refusal.{Refusal}
+use Rattle.sheet.specs.declared.Lines.{Lines}
+use Rattle.sheet.specs.declared.LinesReading.{LinesReading}
+use Rattle.sheet.specs.Text.{lineFeed}
+use Rattle.sheet.specs.Record.{between, codeOf, emptyCode, generatorLine, claimedLine}
+
+-- What a reader gives: a value and the rest of the bytes, or the refusal that ends the reading.
+pub data Parsed (A : Type 0) : Type 0 where
+  got : A → List ℕ → Parsed A
+  stop : Refusal → Parsed A
+
+abbrev pub Reader : Type 0 → Type 0
+Reader A = List ℕ → Parsed A
+
+unfoldable pub done : {A : Type 0} → A → Reader A
+done a s = got a s
+
+-- The rest of the bytes goes to the next reader, and a refusal ends the reading.
+unfoldable pub continue : {A B : Type 0} → Parsed A → (A → Reader B) → Parsed B
+continue (got a s) next = next a s
+continue (stop refusal) next = stop refusal
+
+infixl 10 _>>=_
+abbrev pub _>>=_ : {A B : Type 0} → Reader A → (A → Reader B) → Reader B
+_>>=_ first next s = continue (first s) next
+
+unfoldable pub begins : List ℕ → List ℕ → Bool
+begins [] s = true
+begins (p ∷ ps) [] = false
+begins (p ∷ ps) (c ∷ s) = eqb p c && begins ps s
+
+-- Each byte read by itself; nothing if one of them cannot be.
+unfoldable pub readEach : {A : Type 0} → (ℕ → Option A) → List ℕ → Option (List A)
+readEach read [] = some []
+readEach read (c ∷ cs) = bind (read c) (λ a. Option·map (λ rest. a ∷ rest) (readEach read cs))
+
+-- A line: the key, m bytes that are a value, a line feed.
+unfoldable pub readLine : {A : Type 0} → String → ℕ → (List ℕ → Option A) → Refusal → Reader A
+readLine key m read refusal s =
+    let value = drop (length (bytes key)) s in
+    cond (begins (bytes key) s && eqb (getD value m 0) lineFeed)
+    (elim (read (take m value)) [ some a ↦ got a (drop (m + 1) value) | none ↦ stop refusal ])
+    (stop refusal)
+
+unfoldable pub readDigit : ℕ → Option ℕ
+readDigit c = cond (between (code "0") (code "9") c) (some (c - code "0")) none
+
+unfoldable pub numberOf : List ℕ → Option ℕ
+numberOf [] = none
+numberOf (zero ∷ ds) = none
+numberOf (suc d ∷ ds) = some (foldl (λ m e. m * 10 + e) (suc d) ds)
+
+-- A number, the first digit not 0.
+unfoldable pub readNumber : List ℕ → Option ℕ
+readNumber cs = bind (readEach readDigit cs) numberOf
+
+-- Letters, with no sign: a row with sign +.
+unfoldable pub readLetters : List ℕ → Option Pauli
+readLetters cs = Option·map ofLetters (readEach readLetter cs)
+
+-- A sign, then letters.
+unfoldable pub readRow : List ℕ → Option Pauli
+readRow [] = none
+readRow (c ∷ cs) = bind (readSign c) (λ s. Option·map (signedRow s) (readEach readLetter cs))
+
+unfoldable pub inRange : ℕ → ℕ → Refusal → ℕ → Reader ℕ
+inRange low high refusal m = cond (between low high m) (done m) (λ s. stop refusal)
+
+-- 01: "`n=` one or two digits, first not 0"; 2 at line 1, then 3 where n is not 2 to 24.
+unfoldable pub qubitLine : Reader ℕ
+qubitLine s =
+    (readLine "n=" (cond (eqb (getD s 3 0) lineFeed) 1 2) readNumber (Refusal.Form 1)
+    >>= inRange 2 24 (Refusal.QubitCount 1)) s
+
+-- 01: "`d=` one digit 1 to 9"; 2 at line 2, then 4 where d is not 1 to 7.
+unfoldable pub distanceLine : Reader ℕ
+distanceLine = readLine "d=" 1 readNumber (Refusal.Form 2) >>= inRange 1 7 (Refusal.DistanceRange 2)
+
+-- 01: "a sign, then n letters"
+unfoldable pub rowLine : String → ℕ → ℕ → Reader Pauli
+rowLine key n at = readLine key (n + 1) readRow (Refusal.Form at)
+
+-- The g lines from the line `at` on, of which `left` may still come.
+-- 01: 5, before their form, at "`g=` again after n - 1 of them".
+unfoldable pub generatorLines : ℕ → ℕ → ℕ → Reader (List Pauli)
+generatorLines zero n at s = cond (begins (bytes "g=") s) (stop (Refusal.GeneratorCount at)) (got [] s)
+generatorLines (suc left) n at s =
+    cond (begins (bytes "g=") s)
+    (continue (rowLine "g=" n at s) (λ g. generatorLines left n (at + 1) >>= λ gs. done (g ∷ gs)))
+    (got [] s)
+
+-- 01: 5 where the "first place does not begin `g=`".
+unfoldable pub allGeneratorLines : ℕ → Reader (List Pauli)
+allGeneratorLines n s =
+    cond (begins (bytes "g=") s) (generatorLines (n - 1) n generatorLine s) (stop (Refusal.GeneratorCount generatorLine))
+
+-- The k lines of the X or of the Z logicals, from the line `at` on.
+unfoldable pub logicalLines : ℕ → String → ℕ → ℕ → Reader (List Pauli)
+logicalLines zero key n at = done []
+logicalLines (suc k) key n at = do
+  l ← rowLine key n at
+  ls ← logicalLines k key n (at + 1)
+  done (l ∷ ls)
+
+-- 01: "`w=`: n letters, no sign, a claimed lightest logical."
+unfoldable pub claimLine : ℕ → ℕ → Reader Pauli
+claimLine n at = readLine "w=" n readLetters (Refusal.Form at)
+
+-- The lines of a sheet, in order. Bytes behind w are the rest.
+unfoldable pub sheetLines : Reader Code
+sheetLines = do
+  n ← qubitLine
+  d ← distanceLine
+  gs ← allGeneratorLines n
+  xs ← logicalLines (n - length gs) "x=" n (generatorLine + length gs)
+  zs ← logicalLines (n - length gs) "z=" n (generatorLine + n)
+  w ← claimLine n (generatorLine + n + (n - length gs))
+  done (codeOf n d gs xs zs w)
+
+-- 01: "Check 1 is first": 1 where the whole input has more than 4,096 bytes.
+unfoldable pub readLines : Reader Code
+readLines s = cond (ltb 4096 (length s)) (stop Refusal.TooLong) (sheetLines s)
+
+-- 01: "for a sheet read by itself, bytes behind w": 2 at the line after w.
+unfoldable pub nothingBehind : Code → Reader Code
+nothingBehind c [] = got c []
+nothingBehind c (b ∷ s) = stop (Refusal.Form (claimedLine c + 1))
+
+-- The form of a sheet read by itself.
+unfoldable pub readForm : Reader Code
+readForm = readLines >>= nothingBehind
+
+-- The answer of the call that reads the lines: the record and how many bytes they took, or the refusal and the empty record.
+unfoldable pub linesReading : List ℕ → LinesReading
+linesReading s =
+    elim (readLines s) [
+      | got c rest ↦ record { answer = Lines.Read (length s - length rest); code = c }
+      | stop refusal ↦ record { answer = Lines.Refused refusal; code = emptyCode }
+    ]

@@ -1,0 +1,48 @@
+-- Texts: lines and numbers, and what an output buffer holds after a call.
+use mathlib.Core.Bool.{cond, true, false}
+use mathlib.Core.List.{List, [], _∷_, _++_}
+use Prim.Native.Nat.{ℕ, zero, suc, _+_, _/_, _%_}
+use Prim.Native.Char.{code}
+use Prim.Native.String.{String}
+use lib.Dec.{ltb, leb}
+use lib.ListN.{length, drop}
+use Rattle.pauli.specs.Lists.{bytes}
+use Rattle.sheet.specs.declared.Refusal.{Refusal}
+use Rattle.sheet.specs.declared.Written.{Written}
+
+-- 01: "each closed by a line feed (byte 10)"
+unfoldable pub lineFeed : ℕ
+lineFeed = 10
+
+-- A line `key=value`.
+unfoldable pub line : String → List ℕ → List ℕ
+line key value = bytes key ++ value ++ lineFeed ∷ []
+
+-- 01: "numbers are in base ten", "with no leading zeros". The first argument bounds how many digits there are.
+unfoldable pub digits : ℕ → ℕ → List ℕ
+digits zero m = []
+digits (suc k) m =
+    elim (ltb m 10) [ true ↦ (code "0" + m) ∷ [] | false ↦ digits k (m / 10) ++ (code "0" + m % 10) ∷ [] ]
+
+unfoldable pub decimal : ℕ → List ℕ
+decimal m = digits (suc m) m
+
+-- The answer of a call that is lent an output buffer, and what the buffer holds afterwards.
+pub record After (A : Type 0) : Type 0 where
+  pub answer : A
+  pub buffer : List ℕ
+
+-- 01: "the bytes behind an answer stay."
+unfoldable pub laid : List ℕ → List ℕ → List ℕ
+laid text buffer = text ++ drop (length text) buffer
+
+-- 01: "Every refusal leaves them untouched."
+unfoldable pub untouched : {A : Type 0} → A → List ℕ → After A
+untouched answer buffer = record { answer = answer; buffer = buffer }
+
+-- A call whose answer is a text: 17 where the buffer is shorter, else the text and its count of bytes.
+unfoldable pub written : List ℕ → List ℕ → After Written
+written text buffer =
+    cond (leb (length text) (length buffer))
+    (record { answer = Written.Count (length text); buffer = laid text buffer })
+    (untouched (Written.Refused Refusal.ShortBuffer) buffer)

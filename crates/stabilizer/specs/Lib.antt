@@ -1,0 +1,4 @@
+pub mod Group
+pub mod Checks
+pub mod Canonical
+pub mod Opened

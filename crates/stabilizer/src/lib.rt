@@ -1,0 +1,1 @@
+// The stabilizer group of a code's generators. Its definitions are in specs/.
