@@ -2,3 +2,4 @@ pub mod Logicals
 pub mod Distance
 pub mod Admission
 pub mod Opened
+pub mod Statements

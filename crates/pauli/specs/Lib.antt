@@ -4,3 +4,4 @@ pub mod Product
 pub mod Letters
 pub mod Order
 pub mod Opened
+pub mod Statements

@@ -1,4 +1,4 @@
--- 01, "Sheets at the edges": the starred sheets A to L, without their `s=` lines.
+-- 01, "Sheets at the edges": the starred sheets A to L, without their `s=` lines, and the nine-qubit code.
 use Prim.Native.String.{String, _++_}
 
 -- The five-qubit code, with its distance, its logicals and its claimed lightest logical.
@@ -54,3 +54,9 @@ sheetK = "n=2\nd=1\ng=+ZZ\nx=+XX\nz=+ZI\nw=ZI\n"
 unfoldable pub sheetL : String
 sheetL =
     "n=7\nd=3\ng=+IIIXXXX\ng=+IXXIIXX\ng=+XIXIXIX\ng=+IIIZZZZ\ng=+IZZIIZZ\ng=+ZIZIZIZ\nx=+XXXXXXX\nz=+ZZZZZZZ\nw=XXXIIII\n"
+
+-- "Nine qubits, ZZ on 1-2, 2-3, 4-5, 5-6, 7-8, 8-9, then XXXXXXIII and IIIXXXXXX, d=3"; the logicals and w are ours.
+unfoldable pub nineQubits : String
+nineQubits =
+    "n=9\nd=3\ng=+ZZIIIIIII\ng=+IZZIIIIII\ng=+IIIZZIIII\ng=+IIIIZZIII\ng=+IIIIIIZZI\ng=+IIIIIIIZZ\ng=+XXXXXXIII\ng=+IIIXXXXXX\n"
+    ++ "x=+ZZZZZZZZZ\nz=+XXXXXXXXX\nw=XXXIIIIII\n"

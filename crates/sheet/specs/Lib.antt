@@ -5,3 +5,4 @@ pub mod Reader
 pub mod Writer
 pub mod Edges
 pub mod Opened
+pub mod Statements

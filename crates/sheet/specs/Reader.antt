@@ -145,10 +145,14 @@ nothingBehind c (b ∷ s) = stop (Refusal.Form (claimedLine c + 1))
 unfoldable pub readForm : Reader Code
 readForm = readLines >>= nothingBehind
 
--- The answer of the call that reads the lines: the record and how many bytes they took, or the refusal and the empty record.
+-- A reading as a call answers it: how many bytes were read and the record, or the refusal and the empty record.
+unfoldable pub answered : List ℕ → Parsed Code → LinesReading
+answered s (got c rest) = record { answer = Lines.Read (length s - length rest); code = c }
+answered s (stop refusal) = record { answer = Lines.Refused refusal; code = emptyCode }
+
+-- The call on the lines of a sheet, with anything behind them, as a report reads it; and on a sheet by itself.
 unfoldable pub linesReading : List ℕ → LinesReading
-linesReading s =
-    elim (readLines s) [
-      | got c rest ↦ record { answer = Lines.Read (length s - length rest); code = c }
-      | stop refusal ↦ record { answer = Lines.Refused refusal; code = emptyCode }
-    ]
+linesReading s = answered s (readLines s)
+
+unfoldable pub formReading : List ℕ → LinesReading
+formReading s = answered s (readForm s)

@@ -1,0 +1,80 @@
+-- Syndromes and corrections of small codes, computed.
+use mathlib.Core.List.{List, [], _∷_}
+use mathlib.Core.Path.{_≡_, refl}
+use Prim.Native.Nat.{ℕ, _+_, _^_}
+use Prim.Native.String.{String}
+use Rattle.pauli.specs.declared.Pauli.{Pauli}
+use Rattle.pauli.specs.Letters.{Letter, I, X, Z, ofLetters}
+use Rattle.pauli.specs.Lists.{bytes}
+use Rattle.sheet.specs.declared.Code.{Code}
+use Rattle.sheet.specs.declared.Refusal.{Refusal}
+use Rattle.sheet.specs.Edges.{nineQubits, sheetA, sheetK}
+use Rattle.sheet.specs.Record.{emptyCode}
+use Rattle.sheet.specs.Text.{untouched}
+use Rattle.admission.specs.Admission.{readSheet}
+use Rattle.decoder.specs.declared.Decoded.{Decoded}
+use Rattle.decoder.specs.declared.SyndromeAnswer.{SyndromeAnswer}
+use Rattle.decoder.specs.Correction.{decode}
+use Rattle.decoder.specs.Opened.{opened}
+use Rattle.decoder.specs.Syndrome.{writeSyndrome}
+
+codeA : Code
+codeA = readSheet (bytes sheetA) .code
+
+codeK : Code
+codeK = readSheet (bytes sheetK) .code
+
+-- ---- syndromes
+
+-- X on qubit 1 of A anticommutes with its last generator alone
+syndrome-a : writeSyndrome codeA (ofLetters (X ∷ I ∷ I ∷ I ∷ I ∷ [])) (bytes "abcdef") ≡ record { answer = SyndromeAnswer.Given; buffer = bytes "0001ef" }
+unfolding codeA opened
+syndrome-a = refl
+
+-- the phase, and mask bits above qubit n, change nothing
+syndrome-above : writeSyndrome codeA (record { p = 7; a = 2 ^ 31 + 1; b = 2 ^ 5 }) (bytes "abcd") ≡ record { answer = SyndromeAnswer.Given; buffer = bytes "0001" }
+unfolding codeA opened
+syndrome-above = refl
+
+syndrome-short : writeSyndrome codeA (ofLetters []) (bytes "abc") ≡ untouched (SyndromeAnswer.Refused Refusal.ShortBuffer) (bytes "abc")
+unfolding codeA opened
+syndrome-short = refl
+
+-- ---- corrections
+
+decode-a : decode codeA (bytes "0001") (bytes "abcdefg") ≡ record { answer = Decoded.Correction; buffer = bytes "XIIIIfg" }
+unfolding codeA opened
+decode-a = refl
+
+decode-none : decode codeK (bytes "1") (bytes "abc") ≡ untouched Decoded.None (bytes "abc")
+unfolding codeK opened
+decode-none = refl
+
+-- 15 before 16 before 17, and 17 even where the answer would be none
+decode-outside : decode emptyCode (bytes "x") [] ≡ untouched (Decoded.Refused Refusal.RecordLimits) []
+unfolding opened
+decode-outside = refl
+
+decode-off-form : decode codeK (bytes "01") [] ≡ untouched (Decoded.Refused (Refusal.Syndrome 0)) []
+unfolding codeK opened
+decode-off-form = refl
+
+decode-short : decode codeK (bytes "1") (bytes "a") ≡ untouched (Decoded.Refused Refusal.ShortBuffer) (bytes "a")
+unfolding codeK opened
+decode-short = refl
+
+-- "Nine qubits ..: the errors Z on 1, 2 and 3 share a syndrome; the correction is IIZIIIIII."
+codeNine : Code
+codeNine = readSheet (bytes nineQubits) .code
+
+z-on-1 : writeSyndrome codeNine (ofLetters (Z ∷ [])) (bytes "abcdefgh") .buffer ≡ bytes "00000010"
+unfolding codeNine opened
+z-on-1 = refl
+
+z-on-3 : writeSyndrome codeNine (ofLetters (I ∷ I ∷ Z ∷ [])) (bytes "abcdefgh") .buffer ≡ bytes "00000010"
+unfolding codeNine opened
+z-on-3 = refl
+
+decode-nine : decode codeNine (bytes "00000010") (bytes "abcdefghi") .buffer ≡ bytes "IIZIIIIII"
+unfolding codeNine opened
+decode-nine = refl

@@ -1,0 +1,90 @@
+-- What is stated of the decoder, and of admission and decoder together: demand 3.
+use mathlib.Core.Bool.{Bool, true}
+use mathlib.Core.List.{List, map}
+use mathlib.Core.Logic.{_⊎_, _↔_}
+use mathlib.Core.Option.{none, some}
+use mathlib.Core.Path.{_≡_}
+use Prim.Native.Nat.{ℕ, _+_, _≤_, _<_}
+use lib.ListN.{length}
+use Rattle.pauli.specs.declared.Pauli.{Pauli}
+use Rattle.pauli.specs.Letters.{Letter, ofLetters, letterByte}
+use Rattle.pauli.specs.Order.{weightOf, Earlier}
+use Rattle.pauli.specs.Product.{product, weight}
+use Rattle.sheet.specs.declared.Code.{Code}
+use Rattle.sheet.specs.declared.ErrorPair.{ErrorPair}
+use Rattle.sheet.specs.declared.Refusal.{Refusal}
+use Rattle.sheet.specs.Record.{generators, radius, onQubits, claimedLine}
+use Rattle.sheet.specs.Text.{laid, untouched}
+use Rattle.stabilizer.specs.Group.{InGroup}
+use Rattle.admission.specs.declared.Admission.{Admission}
+use Rattle.admission.specs.Admission.{LawfulButForDistance, refusedReading, admitted, readSheet}
+use Rattle.decoder.specs.declared.Decoded.{Decoded}
+use Rattle.decoder.specs.Syndrome.{syndrome, syndromeText}
+use Rattle.decoder.specs.Correction.{correction, decode}
+
+-- ---- the correction is the earliest
+
+-- The strings among which a correction is looked for: n letters, weight at most t, the given syndrome.
+pub record Candidate (c : Code) (bits : List Bool) (s : List Letter) : Type 0 where
+  pub letters : length s ≡ c .n
+  pub light : weightOf s ≤ radius c
+  pub matches : syndrome (generators c) (ofLetters s) ≡ bits
+
+-- 01: "the correction is the earliest Pauli of weight at most t with the given syndrome", or there is none.
+pub record CorrectionIsEarliest : Type 0 where
+  pub found : (c : Code) (bits : List Bool) (s : List Letter) → correction c bits ≡ some s
+      → Candidate c bits s × ((s′ : List Letter) → Candidate c bits s′ → (s′ ≡ s) ⊎ Earlier s s′)
+  pub missing : (c : Code) (bits : List Bool) → correction c bits ≡ none → (s : List Letter) → Candidate c bits s → ⊥
+
+-- ---- demand 3, first half
+
+-- What demand 3 says of the error E under the code c. "E's syndrome has a correction, that correction weighs no more than E, and
+-- correction times E is, phase aside, a product of generators." "Given that record and that syndrome, the decode call writes its letters or
+-- refuses with 17, and never answers `none`."
+pub record IsCorrected (c : Code) (E : Pauli) : Type 0 where
+  pub letters : List Letter
+  pub found : correction c (syndrome (generators c) E) ≡ some letters
+  pub light : weightOf letters ≤ weight E
+  pub mends : InGroup (generators c) (product (ofLetters letters) E)
+  pub written : (buffer : List ℕ) → c .n ≤ length buffer
+      → decode c (syndromeText (syndrome (generators c) E)) buffer
+      ≡ record { answer = Decoded.Correction; buffer = laid (map letterByte letters) buffer }
+  pub short : (buffer : List ℕ) → length buffer < c .n
+      → decode c (syndromeText (syndrome (generators c) E)) buffer ≡ untouched (Decoded.Refused Refusal.ShortBuffer) buffer
+
+-- "Take any admitted sheet .. Whatever Pauli error E strikes at most t of its qubits": any phase, I among them.
+abbrev pub ErrorsAreCorrected : Type 0
+ErrorsAreCorrected =
+    (s : List ℕ) → readSheet s .answer ≡ Admission.Admitted → (E : Pauli) → onQubits (readSheet s .code .n) E ≡ true
+    → weight E ≤ radius (readSheet s .code) → IsCorrected (readSheet s .code) E
+
+-- ---- demand 3, second half
+
+-- "two errors exist whose weights are together below d, whose syndromes are equal, and whose product is not, phase aside, a product of
+-- generators"
+pub record Refutes (c : Code) (E F : Pauli) : Type 0 where
+  pub errorE : onQubits (c .n) E ≡ true
+  pub errorF : onQubits (c .n) F ≡ true
+  pub light : weight E + weight F < c .d
+  pub alike : syndrome (generators c) E ≡ syndrome (generators c) F
+  pub harmful : InGroup (generators c) (product E F) → ⊥
+
+abbrev pub Refuted : Code → Type 0
+Refuted c = (E : Pauli) × (F : Pauli) × Refutes c E F
+
+-- The answer 14, with the pair that it carries.
+abbrev pub RefusedForDistance : List ℕ → Code → ErrorPair → Type 0
+RefusedForDistance s c pair = readSheet s ≡ refusedReading (Refusal.DistanceRefuted (claimedLine c) pair)
+
+-- "A sheet lawful in all else is refused for its distance exactly when" such a pair exists; "Two such are then shown. In every other case
+-- that sheet is admitted."
+pub record DistanceIsDecided : Type 0 where
+  pub exactly : (s : List ℕ) (c : Code) → LawfulButForDistance s c → ((pair : ErrorPair) × RefusedForDistance s c pair) ↔ Refuted c
+  pub shown : (s : List ℕ) (c : Code) (pair : ErrorPair) → LawfulButForDistance s c → RefusedForDistance s c pair
+      → (pair .n ≡ c .n) × Refutes c (pair .e) (pair .f)
+  pub otherwise : (s : List ℕ) (c : Code) → LawfulButForDistance s c → (Refuted c → ⊥) → readSheet s ≡ admitted c
+
+-- Demand 3 in full.
+pub record Guarantee : Type 0 where
+  pub corrected : ErrorsAreCorrected
+  pub decided : DistanceIsDecided

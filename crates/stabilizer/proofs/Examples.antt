@@ -1,0 +1,123 @@
+-- The group's checks and canonical generators of small row lists, computed.
+use mathlib.Core.Bool.{true, false}
+use mathlib.Core.List.{List, [], _∷_, map}
+use mathlib.Core.Option.{Option, none, some, Option·getD}
+use mathlib.Core.Path.{_≡_, refl}
+use Prim.Native.String.{String}
+use Rattle.pauli.specs.declared.Pauli.{Pauli}
+use Rattle.pauli.specs.Letters.{I, Z, ofLetters}
+use Rattle.pauli.specs.Lists.{bytes}
+use Rattle.pauli.specs.Product.{identity}
+use Rattle.sheet.specs.declared.Code.{Code}
+use Rattle.sheet.specs.declared.Family.{Family}
+use Rattle.sheet.specs.declared.Refusal.{Refusal}
+use Rattle.sheet.specs.declared.Written.{Written}
+use Rattle.sheet.specs.Reader.{readRow}
+use Rattle.sheet.specs.Record.{codeOf, emptyCode}
+use Rattle.sheet.specs.Text.{untouched}
+use Rattle.stabilizer.specs.Canonical.{canonicalRows, writeCanonical}
+use Rattle.stabilizer.specs.Checks.{generatorFault}
+use Rattle.stabilizer.specs.Group.{inGroup}
+use Rattle.stabilizer.specs.Opened.{opened}
+
+-- Rows as they are written.
+rows : List String → List Pauli
+rows texts = map (λ t. Option·getD (readRow (bytes t)) identity) texts
+
+-- ---- 6 to 8
+
+-- "n=3 with +XII, +ZII: 6, line 4"
+clash : generatorFault (rows ("+XII" ∷ "+ZII" ∷ [])) ≡ some (Refusal.GeneratorsAnticommute 4 Family.Generator)
+unfolding rows opened
+clash = refl
+
+-- sheets I and J: XX times ZZ is -YY
+minus : generatorFault (rows ("+XXII" ∷ "+ZZII" ∷ "+YYII" ∷ [])) ≡ some (Refusal.MinusIdentity 5 Family.Generator)
+unfolding rows opened
+minus = refl
+
+dependent : generatorFault (rows ("+XXII" ∷ "+ZZII" ∷ "-YYII" ∷ [])) ≡ some (Refusal.DependentGenerator 5 Family.Generator)
+unfolding rows opened
+dependent = refl
+
+-- a row +I is a product of no row, and -I is 7
+plus-identity : generatorFault (rows ("+ZZ" ∷ "+II" ∷ [])) ≡ some (Refusal.DependentGenerator 4 Family.Generator)
+unfolding rows opened
+plus-identity = refl
+
+minus-identity : generatorFault (rows ("-II" ∷ "+ZZ" ∷ [])) ≡ some (Refusal.MinusIdentity 3 Family.Generator)
+unfolding rows opened
+minus-identity = refl
+
+-- 6 over all rows comes before 7 and 8
+clash-first : generatorFault (rows ("+ZZI" ∷ "-ZZI" ∷ "+XII" ∷ [])) ≡ some (Refusal.GeneratorsAnticommute 5 Family.Generator)
+unfolding rows opened
+clash-first = refl
+
+-- "Document 000 table 3.3, all signs +: M1 to M5 pass 6 to 8."
+eightQubits : List Pauli
+unfolding rows
+eightQubits = rows ("+XXXXXXXX" ∷ "+ZZZZZZZZ" ∷ "+IXIXYZYZ" ∷ "+IXZYIXZY" ∷ "+IYXZXZIY" ∷ [])
+
+eight-qubits-pass : generatorFault eightQubits ≡ none
+unfolding eightQubits opened
+eight-qubits-pass = refl
+
+-- ---- members
+
+fiveQubits : List Pauli
+unfolding rows
+fiveQubits = rows ("+XZZXI" ∷ "+IXZZX" ∷ "+XIXZZ" ∷ "+ZXIXZ" ∷ [])
+
+-- the product of the first two rows, phase aside; and a logical operator
+member : inGroup fiveQubits (Option·getD (readRow (bytes "-XYIYX")) identity) ≡ true
+unfolding fiveQubits opened
+member = refl
+
+not-member : inGroup fiveQubits (Option·getD (readRow (bytes "+XXXXX")) identity) ≡ false
+unfolding fiveQubits opened
+not-member = refl
+
+-- ---- canonical generators
+
+-- those of A, from its rows in any order
+canonical-a : canonicalRows 5 fiveQubits ≡ rows ("+YZIZY" ∷ "+IXZZX" ∷ "+ZZXIX" ∷ "+ZIZYY" ∷ [])
+unfolding fiveQubits rows opened
+canonical-a = refl
+
+canonical-any-order : canonicalRows 5 (rows ("+ZXIXZ" ∷ "+IXZZX" ∷ "+XZZXI" ∷ "+XIXZZ" ∷ [])) ≡ canonicalRows 5 fiveQubits
+unfolding fiveQubits rows opened
+canonical-any-order = refl
+
+-- signs follow the product rule
+canonical-sign : canonicalRows 2 (rows ("+XX" ∷ "+YY" ∷ [])) ≡ rows ("+XX" ∷ "-ZZ" ∷ [])
+unfolding rows opened
+canonical-sign = refl
+
+canonical-eight : canonicalRows 8 eightQubits ≡ rows ("+XZIYIYXZ" ∷ "+IXZYIXZY" ∷ "-IZXYZIYX" ∷ "-IIZZYYXX" ∷ "+ZZZZZZZZ" ∷ [])
+unfolding eightQubits rows opened
+canonical-eight = refl
+
+-- ---- the call, on the record of K with another generator
+
+record2 : List String → Code
+unfolding rows
+record2 generators = codeOf 2 1 (rows generators) (rows ("+XX" ∷ [])) (rows ("+ZI" ∷ [])) (ofLetters (Z ∷ I ∷ []))
+
+-- six bytes, and the rest of the buffer stays
+written-six : writeCanonical (record2 ("-ZZ" ∷ [])) (bytes "abcdefgh") ≡ record { answer = Written.Count 6; buffer = bytes "h=-ZZ\ngh" }
+unfolding record2 opened
+written-six = refl
+
+-- 17, 7 and 15 write nothing, 7 before 17 and 15 before 7
+short : writeCanonical (record2 ("-ZZ" ∷ [])) (bytes "abcde") ≡ untouched (Written.Refused Refusal.ShortBuffer) (bytes "abcde")
+unfolding record2 opened
+short = refl
+
+faulty : writeCanonical (record2 ("-II" ∷ [])) [] ≡ untouched (Written.Refused (Refusal.MinusIdentity 3 Family.Generator)) []
+unfolding record2 opened
+faulty = refl
+
+outside : writeCanonical emptyCode (bytes "abc") ≡ untouched (Written.Refused Refusal.RecordLimits) (bytes "abc")
+unfolding opened
+outside = refl
