@@ -1,13 +1,15 @@
 -- Other sheets at the edges, read by themselves and computed.
+use mathlib.Core.Option.{some}
 use mathlib.Core.Path.{_≡_, refl}
 use Prim.Native.String.{String, _++_}
 use Rattle.pauli.specs.Lists.{bytes}
 use Rattle.sheet.specs.declared.Family.{Family}
 use Rattle.sheet.specs.declared.Refusal.{Refusal}
-use Rattle.sheet.specs.Edges.{nineQubits, sheetC}
+use Rattle.sheet.specs.Edges.{nineQubits, sheetA, sheetC, sheetK}
 use Rattle.sheet.specs.Record.{emptyCode}
 use Rattle.admission.specs.declared.Admission.{Admission}
 use Rattle.admission.specs.Admission.{readSheet}
+use Rattle.admission.specs.Distance.{distance}
 use Rattle.admission.specs.Opened.{opened}
 
 -- Nine qubits: ZZ on 1-2 has weight 2, commutes with every generator, and is no logical error, since it is a generator.
@@ -35,3 +37,8 @@ detected-before-pairing = refl
 refused-record : readSheet (bytes sheetC) .code ≡ emptyCode
 unfolding opened
 refused-record = refl
+
+-- The distance of A and of K.
+distances : (distance (readSheet (bytes sheetA) .code) ≡ some 3) × (distance (readSheet (bytes sheetK) .code) ≡ some 1)
+unfolding opened
+distances = (refl, refl)

@@ -1,7 +1,7 @@
 -- The checks of w, 11 to 13, and the distance, 14.
 use mathlib.Core.Bool.{Bool, not, _&&_}
 use mathlib.Core.List.{List, [], _∷_, map}
-use mathlib.Core.Option.{Option, none, some}
+use mathlib.Core.Option.{Option, none, some, Option·map}
 use Prim.Native.Nat.{ℕ, zero, suc, _+_, _-_, _/_}
 use lib.Dec.{eqb}
 use Rattle.pauli.specs.declared.Pauli.{Pauli}
@@ -33,9 +33,13 @@ claimedInGroupFault c = refuseIf (inGroup (generators c) (c .w)) (Refusal.Claime
 unfoldable pub isLogicalError : List Pauli → Pauli → Bool
 isLogicalError rows P = allOf (commutes P) rows && not (inGroup rows P)
 
--- The earliest logical error of weight below d, if there is one.
-unfoldable pub earliestLogicalError : Code → Option (List Letter)
-earliestLogicalError c = firstOf (λ s. isLogicalError (generators c) (ofLetters s)) (stringsUpTo (c .n) (c .d - 1))
+-- The earliest logical error of weight at most v, if there is one.
+unfoldable pub logicalErrorUpTo : Code → ℕ → Option (List Letter)
+logicalErrorUpTo c v = firstOf (λ s. isLogicalError (generators c) (ofLetters s)) (stringsUpTo (c .n) v)
+
+-- 01: "the distance is the least weight of one."
+unfoldable pub distance : Code → Option ℕ
+distance c = Option·map weightOf (logicalErrorUpTo c (c .n))
 
 -- The first m letters other than I, with I for all others; and the others, with I for those.
 unfoldable pub firstLetters : ℕ → List Letter → List Letter
@@ -68,5 +72,5 @@ refutingPair n s =
 -- 14: "a logical error of weight below d exists"
 unfoldable pub distanceFault : Code → Option Refusal
 distanceFault c =
-    elim (earliestLogicalError c)
+    elim (logicalErrorUpTo c (c .d - 1))
     [ some s ↦ some (Refusal.DistanceRefuted (claimedLine c) (refutingPair (c .n) s)) | none ↦ none ]

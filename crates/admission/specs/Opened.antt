@@ -2,9 +2,9 @@
 -- `unfolding opened` unfolds all that the line below names.
 use Rattle.stabilizer.specs.Opened.{opened as opened-stabilizer}
 use Rattle.admission.specs.Logicals.{logicals, familyAfter, detected, pairsWrongly, mispaired, detectedFault, pairingFault}
-use Rattle.admission.specs.Distance.{claimedWeightFault, claimedDetectedFault, claimedInGroupFault, isLogicalError, earliestLogicalError, firstLetters, otherLetters, halfUp, refutingPair, distanceFault}
+use Rattle.admission.specs.Distance.{claimedWeightFault, claimedDetectedFault, claimedInGroupFault, isLogicalError, logicalErrorUpTo, distance, firstLetters, otherLetters, halfUp, refutingPair, distanceFault}
 use Rattle.admission.specs.Admission.{faultButDistance, codeFault, refusedReading, admitted, readSheet}
 
 unfoldable pub opened : Unit {0}
-unfolding logicals familyAfter detected pairsWrongly mispaired detectedFault pairingFault claimedWeightFault claimedDetectedFault claimedInGroupFault isLogicalError earliestLogicalError firstLetters otherLetters halfUp refutingPair distanceFault faultButDistance codeFault refusedReading admitted readSheet opened-stabilizer
+unfolding logicals familyAfter detected pairsWrongly mispaired detectedFault pairingFault claimedWeightFault claimedDetectedFault claimedInGroupFault isLogicalError logicalErrorUpTo distance firstLetters otherLetters halfUp refutingPair distanceFault faultButDistance codeFault refusedReading admitted readSheet opened-stabilizer
 opened = tt

@@ -1,12 +1,13 @@
 -- Syndromes.
 use mathlib.Core.Bool.{Bool, true, false, cond, _&&_, Bool·beq}
 use mathlib.Core.List.{List, [], _∷_, map}
-use mathlib.Core.Option.{Option, none, some}
+use mathlib.Core.Option.{Option, none}
 use Prim.Native.Nat.{ℕ}
 use Prim.Native.Char.{code}
 use lib.Dec.{eqb, leb}
 use lib.ListN.{length}
 use Rattle.pauli.specs.declared.Pauli.{Pauli}
+use Rattle.pauli.specs.Lists.{readByte}
 use Rattle.pauli.specs.Product.{anticommutes}
 use Rattle.sheet.specs.declared.Code.{Code}
 use Rattle.sheet.specs.declared.Refusal.{Refusal}
@@ -31,7 +32,7 @@ bitByte false = code "0"
 bitByte true = code "1"
 
 unfoldable pub readBit : ℕ → Option Bool
-readBit c = cond (eqb c (code "0")) (some false) (cond (eqb c (code "1")) (some true) none)
+readBit = readByte bitByte (false ∷ true ∷ [])
 
 unfoldable pub syndromeText : List Bool → List ℕ
 syndromeText bits = map bitByte bits

@@ -1,11 +1,11 @@
 -- Letters and signs: how a Pauli is written.
 use mathlib.Core.Bool.{Bool, cond, _||_}
 use mathlib.Core.List.{List, [], _∷_, map}
-use mathlib.Core.Option.{Option, none, some}
+use mathlib.Core.Option.{Option}
 use Prim.Native.Nat.{ℕ, zero, suc, _+_, _*_, _/_, _%_}
 use Prim.Native.Char.{code}
-use lib.Dec.{eqb}
 use Rattle.pauli.specs.declared.Pauli.{Pauli}
+use Rattle.pauli.specs.Lists.{readByte}
 use Rattle.pauli.specs.Masks.{dot}
 use Rattle.pauli.specs.Product.{hasPhase}
 
@@ -85,16 +85,14 @@ letterByte Y = code "Y"
 letterByte Z = code "Z"
 
 unfoldable pub readLetter : ℕ → Option Letter
-readLetter c =
-    cond (eqb c (code "I")) (some I)
-    (cond (eqb c (code "X")) (some X) (cond (eqb c (code "Y")) (some Y) (cond (eqb c (code "Z")) (some Z) none)))
+readLetter = readByte letterByte (I ∷ X ∷ Y ∷ Z ∷ [])
 
 unfoldable pub signByte : Sign → ℕ
 signByte plus = code "+"
 signByte minus = code "-"
 
 unfoldable pub readSign : ℕ → Option Sign
-readSign c = cond (eqb c (code "+")) (some plus) (cond (eqb c (code "-")) (some minus) none)
+readSign = readByte signByte (plus ∷ minus ∷ [])
 
 -- The n letters of a Pauli as bytes, as w and a correction are written, and with the sign first, as a row is.
 unfoldable pub letterText : ℕ → Pauli → List ℕ

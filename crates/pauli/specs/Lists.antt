@@ -1,9 +1,10 @@
--- Three searches through a list, each of which stops at the first element that settles it, and the bytes of a text.
+-- Searches through a list, each of which stops at the first element that settles it, and the bytes of texts.
 use mathlib.Core.Bool.{Bool, true, false}
 use mathlib.Core.List.{List, [], _∷_}
 use mathlib.Core.Option.{Option, none, some}
 use Prim.Native.Nat.{ℕ}
 use Prim.Native.Char.{code}
+use lib.Dec.{eqb}
 use Prim.Native.String.{String, [] as ε, _∷_ as _▸_}
 
 module _ {A : Type 0} where
@@ -21,6 +22,10 @@ module _ {A : Type 0} where
   unfoldable pub allOf : (A → Bool) → List A → Bool
   allOf test [] = true
   allOf test (x ∷ xs) = elim (test x) [ true ↦ allOf test xs | false ↦ false ]
+
+  -- the one of these values that is written as the byte c
+  unfoldable pub readByte : (A → ℕ) → List A → ℕ → Option A
+  readByte byte values c = firstOf (λ a. eqb c (byte a)) values
 
 -- The bytes of a text of plain characters: a character's byte is its code.
 unfoldable pub bytes : String → List ℕ

@@ -1,53 +1,86 @@
--- Reports at the edges, computed: faults in the `s=` lines, the order of the checks, and a short buffer.
-use mathlib.Core.List.{List, [], _∷_, _++_, List·Memᴰ}
+-- Reports at the edges, computed: codes that tell right from nearly right, the largest n, faults in the `s=` lines, a short buffer.
+use mathlib.Core.List.{List, [], _∷_, _++_, map, List·Memᴰ}
 use mathlib.Core.Path.{_≡_, refl}
 use Prim.Native.String.{String, _++_ as _⧺_}
+use Prim.Native.Nat.{ℕ, zero, suc, _-_}
 use lib.ListN.{replicate}
+use Rattle.pauli.specs.Letters.{Letter, I, X, Z, plus, minus, signedRow, ofLetters}
 use Rattle.pauli.specs.Lists.{bytes}
 use Rattle.pauli.proofs.Table.{All, each}
+use Rattle.sheet.specs.declared.Code.{Code}
 use Rattle.sheet.specs.declared.Refusal.{Refusal}
 use Rattle.sheet.specs.declared.Written.{Written}
-use Rattle.sheet.specs.Edges.{sheetC, sheetK}
+use Rattle.sheet.specs.Edges.{nineQubits, sheetC, sheetK}
+use Rattle.sheet.specs.Record.{codeOf}
 use Rattle.sheet.specs.Text.{lineFeed, untouched}
+use Rattle.sheet.specs.Writer.{sheetText}
+use Rattle.reporting.proofs.Starred.{Entry, Right}
 use Rattle.reporting.specs.Opened.{opened}
 use Rattle.reporting.specs.Report.{reportText, writeReport}
 
--- K's w is line 6, so its first syndrome is line 7.
-record Entry : Type 0 where
-  behind : String
-  output : String
-
-behindK : List Entry
-behindK =
-    record { behind = ""; output = "n=2\nk=1\nd=1\nt=0\nh=+ZZ\n" }
-    ∷ record { behind = "s=0\n\n"; output = "r=16\nat=8\n" }
-    ∷ record { behind = "s=0\ns=1"; output = "r=16\nat=8\n" }
-    ∷ record { behind = "s=0\r\n"; output = "r=16\nat=7\n" }
-    ∷ record { behind = "s=\n"; output = "r=16\nat=7\n" }
-    ∷ record { behind = "s=00\n"; output = "r=16\nat=7\n" }
-    ∷ record { behind = "s=2\n"; output = "r=16\nat=7\n" }
-    ∷ record { behind = "c=0\n"; output = "r=16\nat=7\n" }
+-- Codes on which a wrong reading of 01 differs from the right one.
+others : List Entry
+others =
+    -- Nine qubits: ZZ on 1-2 has syndrome 0 and is no logical error; Z on 1, 2 and 3 share a syndrome.
+    record {
+      input = nineQubits ⧺ "s=00000010\n";
+      output = "n=9\nk=1\nd=3\nt=1\nh=+XXXIIIXXX\nh=+IIIXXXXXX\nh=+ZIZIIIIII\nh=+IZZIIIIII\nh=+IIIZIZIII\nh=+IIIIZZIII\nh=+IIIIIIZIZ\nh=+IIIIIIIZZ\nc=IIZIIIIII\n";
+    }
+    -- Five qubits and a sixth with the generator X: Y and Z on it share a syndrome, and Y is earlier.
+    ∷ record {
+      input = "n=6\nd=3\ng=+XZZXII\ng=+IXZZXI\ng=+XIXZZI\ng=+ZXIXZI\ng=-IIIIIX\nx=+XXXXXI\nz=+ZZZZZI\nw=IYYIXI\ns=00001\n";
+      output = "n=6\nk=1\nd=3\nt=1\nh=+YZIZYI\nh=+IXZZXI\nh=+ZZXIXI\nh=+ZIZYYI\nh=-IIIIIX\nc=IIIIIY\n";
+    }
+    -- Document 000, table 3.5: 10 at line 6; with another last row 9 at line 8 comes before it.
+    ∷ record { input = "n=4\nd=2\ng=+XZZX\ng=+YXXY\nx=+XXXX\nx=+XIXZ\nz=+YZYI\nz=+IXZZ\nw=XIXI\n"; output = "r=10\nat=6\n" }
+    ∷ record { input = "n=4\nd=2\ng=+XZZX\ng=+YXXY\nx=+XXXX\nx=+XIXZ\nz=+YZYI\nz=+IXII\nw=XIXI\n"; output = "r=9\nat=8\n" }
+    -- "n=3 with +XII, +ZII: 6, line 4"
+    ∷ record { input = "n=3\nd=1\ng=+XII\ng=+ZII\nx=+IIX\nz=+IIZ\nw=IIX\n"; output = "r=6\nat=4\n" }
+    -- K and what stands behind it. Its w is line 6, so its first syndrome is line 7.
+    ∷ record { input = sheetK; output = "n=2\nk=1\nd=1\nt=0\nh=+ZZ\n" }
+    ∷ record { input = sheetK ⧺ "s=0\n\n"; output = "r=16\nat=8\n" }
+    ∷ record { input = sheetK ⧺ "s=0\ns=1"; output = "r=16\nat=8\n" }
+    ∷ record { input = sheetK ⧺ "s=0\r\n"; output = "r=16\nat=7\n" }
+    ∷ record { input = sheetK ⧺ "s=\n"; output = "r=16\nat=7\n" }
+    ∷ record { input = sheetK ⧺ "s=00\n"; output = "r=16\nat=7\n" }
+    ∷ record { input = sheetK ⧺ "s=2\n"; output = "r=16\nat=7\n" }
+    ∷ record { input = sheetK ⧺ "c=0\n"; output = "r=16\nat=7\n" }
+    -- 14 comes before 16.
+    ∷ record { input = sheetC ⧺ "s=\n"; output = "r=14\nat=9\ne=IIXYI\nf=IIIIX\n" }
     ∷ []
 
-abbrev Right : Entry → Type 0
-Right e = reportText (bytes (sheetK ⧺ e .behind)) ≡ bytes (e .output)
+all-right : All Right others
+unfolding others opened
+all-right = (refl, (refl, (refl, (refl, (refl, (refl, (refl, (refl, (refl, (refl, (refl, (refl, (refl, (refl, tt))))))))))))))
 
-all-right : All Right behindK
-unfolding behindK opened
-all-right = (refl, (refl, (refl, (refl, (refl, (refl, (refl, (refl, tt))))))))
+others-right : (e : Entry) → List·Memᴰ e others → reportText (bytes (e .input)) ≡ bytes (e .output)
+others-right = each Right others all-right
 
-behind-k-right : (e : Entry) → List·Memᴰ e behindK → reportText (bytes (sheetK ⧺ e .behind)) ≡ bytes (e .output)
-behind-k-right = each Right behindK all-right
-
--- 1 comes before the sheet is looked at, and counts the `s=` lines too
+-- 1 comes before the sheet is looked at, and counts the `s=` lines too.
 too-long : reportText (bytes sheetK ++ replicate 4066 lineFeed) ≡ bytes "r=1\nat=0\n"
 unfolding opened
 too-long = refl
 
--- 14 comes before 16
-distance-before-syndromes : reportText (bytes (sheetC ⧺ "s=\n")) ≡ bytes "r=14\nat=9\ne=IIXYI\nf=IIIIX\n"
-unfolding opened
-distance-before-syndromes = refl
+-- ---- the largest n, with one generator
+
+range : ℕ → ℕ → List ℕ
+range from zero = []
+range from (suc m) = from ∷ range (suc from) m
+
+-- X on qubit 1 and on another, and Z on that one: they pair, and commute with Z on all qubits.
+letterAtOther : Letter → Letter → ℕ → List Letter
+letterAtOther first other j = first ∷ replicate j I ++ other ∷ replicate (22 - j) I
+
+code24 : Code
+code24 =
+    codeOf 24 1 (signedRow minus (replicate 24 Z) ∷ []) (map (λ j. signedRow plus (letterAtOther X X j)) (range 0 23))
+    (map (λ j. signedRow plus (letterAtOther I Z j)) (range 0 23)) (ofLetters (Z ∷ replicate 23 I))
+
+report24 :
+    reportText (sheetText code24 ++ bytes "s=0\ns=1\n")
+    ≡ bytes "n=24\nk=23\nd=1\nt=0\nh=-ZZZZZZZZZZZZZZZZZZZZZZZZ\nc=IIIIIIIIIIIIIIIIIIIIIIII\nc=none\n"
+unfolding code24 letterAtOther range opened
+report24 = refl
 
 -- ---- the call
 

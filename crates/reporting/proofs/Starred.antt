@@ -40,7 +40,7 @@ starred =
     }
     ∷ []
 
-abbrev Right : Entry → Type 0
+abbrev pub Right : Entry → Type 0
 Right e = reportText (bytes (e .input)) ≡ bytes (e .output)
 
 all-right : All Right starred

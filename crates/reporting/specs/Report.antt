@@ -13,7 +13,7 @@ use Rattle.sheet.specs.declared.Written.{Written}
 use Rattle.sheet.specs.Refusals.{values}
 use Rattle.sheet.specs.Record.{logicalCount, radius, claimedLine}
 use Rattle.sheet.specs.Text.{line, decimal, After, written}
-use Rattle.sheet.specs.Reader.{Reader, got, stop, continue, done, _>>=_, readLine, readLines}
+use Rattle.sheet.specs.Reader.{Reader, got, stop, done, _>>=_, readLine, readLines}
 use Rattle.stabilizer.specs.Canonical.{canonicalText}
 use Rattle.admission.specs.Admission.{codeFault}
 use Rattle.decoder.specs.Syndrome.{readSyndrome}
@@ -40,7 +40,7 @@ syndromeLines zero c at [] = got [] []
 syndromeLines zero c at (b ∷ s) = stop (Refusal.Syndrome at)
 syndromeLines (suc most) c at [] = got [] []
 syndromeLines (suc most) c at (b ∷ s) =
-    continue (syndromeLine c at (b ∷ s)) (λ bits. syndromeLines most c (at + 1) >>= λ later. done (bits ∷ later))
+    (do bits ← syndromeLine c at; later ← syndromeLines most c (at + 1); done (bits ∷ later)) (b ∷ s)
 
 unfoldable pub correctionValue : Option (List Letter) → List ℕ
 correctionValue none = bytes "none"

@@ -6,10 +6,10 @@ use mathlib.Core.List.{flatMap}
 use Rattle.sheet.specs.Refusals.{plain, ofRow, values}
 use Rattle.sheet.specs.Record.{logicalCount, radius, generators, logicalXs, logicalZs, generatorLine, logicalLine, claimedLine, filled, codeOf, emptyCode, between, onQubits, isRow, isClaim, areRows, withinLimits}
 use Rattle.sheet.specs.Text.{lineFeed, line, digits, decimal, laid, untouched, written}
-use Rattle.sheet.specs.Reader.{done, continue, begins, readEach, readLine, readDigit, numberOf, readNumber, readLetters, readRow, inRange, qubitLine, distanceLine, rowLine, generatorLines, allGeneratorLines, logicalLines, claimLine, sheetLines, readLines, nothingBehind, readForm, answered, linesReading, formReading}
+use Rattle.sheet.specs.Reader.{done, continue, begins, readEach, readLine, readDigit, numberOf, readNumber, readLetters, readRow, inRange, qubitLine, distanceLine, rowLine, generatorLines, allGeneratorLines, logicalLines, claimLine, linesAfter, sheetLines, readLines, nothingBehind, readForm, answered, linesReading, formReading}
 use Rattle.sheet.specs.Writer.{rowLines, sheetText, writeSheet}
 use Rattle.sheet.specs.Edges.{fiveQubits, sheetA, sheetB, sheetC, sheetD, sheetE, sheetF, sheetG, sheetH, sheetI, sheetJ, sheetK, sheetL, nineQubits}
 
 unfoldable pub opened : Unit {0}
-unfolding plain ofRow values logicalCount radius generators logicalXs logicalZs generatorLine logicalLine claimedLine filled codeOf emptyCode between onQubits isRow isClaim areRows withinLimits lineFeed line digits decimal laid untouched written done continue begins readEach readLine readDigit numberOf readNumber readLetters readRow inRange qubitLine distanceLine rowLine generatorLines allGeneratorLines logicalLines claimLine sheetLines readLines nothingBehind readForm answered linesReading formReading rowLines sheetText writeSheet fiveQubits sheetA sheetB sheetC sheetD sheetE sheetF sheetG sheetH sheetI sheetJ sheetK sheetL nineQubits bind flatMap opened-pauli
+unfolding plain ofRow values logicalCount radius generators logicalXs logicalZs generatorLine logicalLine claimedLine filled codeOf emptyCode between onQubits isRow isClaim areRows withinLimits lineFeed line digits decimal laid untouched written done continue begins readEach readLine readDigit numberOf readNumber readLetters readRow inRange qubitLine distanceLine rowLine generatorLines allGeneratorLines logicalLines claimLine linesAfter sheetLines readLines nothingBehind readForm answered linesReading formReading rowLines sheetText writeSheet fiveQubits sheetA sheetB sheetC sheetD sheetE sheetF sheetG sheetH sheetI sheetJ sheetK sheetL nineQubits bind flatMap opened-pauli
 opened = tt

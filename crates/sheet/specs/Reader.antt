@@ -101,7 +101,7 @@ unfoldable pub generatorLines : ℕ → ℕ → ℕ → Reader (List Pauli)
 generatorLines zero n at s = cond (begins (bytes "g=") s) (stop (Refusal.GeneratorCount at)) (got [] s)
 generatorLines (suc left) n at s =
     cond (begins (bytes "g=") s)
-    (continue (rowLine "g=" n at s) (λ g. generatorLines left n (at + 1) >>= λ gs. done (g ∷ gs)))
+    ((do g ← rowLine "g=" n at; gs ← generatorLines left n (at + 1); done (g ∷ gs)) s)
     (got [] s)
 
 -- 01: 5 where the "first place does not begin `g=`".
@@ -121,16 +121,24 @@ logicalLines (suc k) key n at = do
 unfoldable pub claimLine : ℕ → ℕ → Reader Pauli
 claimLine n at = readLine "w=" n readLetters (Refusal.Form at)
 
--- The lines of a sheet, in order. Bytes behind w are the rest.
+-- The lines behind the r generators: k lines `x=`, k lines `z=`, and w.
+unfoldable pub linesAfter : (n d : ℕ) → List Pauli → Reader Code
+linesAfter n d gs =
+    let r = length gs in
+    let k = n - r in
+    do
+      xs ← logicalLines k "x=" n (generatorLine + r)
+      zs ← logicalLines k "z=" n (generatorLine + r + k)
+      w ← claimLine n (generatorLine + r + 2 * k)
+      done (codeOf n d gs xs zs w)
+
+-- The lines of a sheet, in order. What stands behind w is the rest.
 unfoldable pub sheetLines : Reader Code
 sheetLines = do
   n ← qubitLine
   d ← distanceLine
   gs ← allGeneratorLines n
-  xs ← logicalLines (n - length gs) "x=" n (generatorLine + length gs)
-  zs ← logicalLines (n - length gs) "z=" n (generatorLine + n)
-  w ← claimLine n (generatorLine + n + (n - length gs))
-  done (codeOf n d gs xs zs w)
+  linesAfter n d gs
 
 -- 01: "Check 1 is first": 1 where the whole input has more than 4,096 bytes.
 unfoldable pub readLines : Reader Code
