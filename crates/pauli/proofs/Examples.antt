@@ -1,15 +1,19 @@
 -- The definitions of this layer at small cases, computed: what 01 says of them in words.
 use mathlib.Core.Path.{_≡_, refl}
 use mathlib.Core.Bool.{true, false}
-use mathlib.Core.List.{List, [], _∷_}
+use mathlib.Core.List.{List, [], _∷_, map}
 use mathlib.Core.Logic.{inl, inr}
 use lib.Dec.{lit<}
 use lib.ListN.{length, replicate}
 use Prim.Native.Nat.{_^_, _-_}
-use Rattle.pauli.specs.Letters.{Letter, I, X, Y, Z, plus, minus, signedRow, ofLetters, lettersOf}
+use Rattle.pauli.specs.Letters.{Letter, I, X, Y, Z, plus, minus, signedRow, ofLetters, lettersOf, isSignedRow, rowText}
+use Rattle.pauli.specs.Lists.{bytes}
+use Rattle.pauli.specs.Masks.{bits}
 use Rattle.pauli.specs.Opened.{opened}
 use Rattle.pauli.specs.Order.{Earlier, SmallerLetter, rank, strings, stringsUpTo, weightOf}
-use Rattle.pauli.specs.Product.{identity, product, commutes, weight}
+use Rattle.pauli.specs.Product.{identity, product, commutes, weight, sameMasks, samePauli}
+
+-- ---- products and commutation
 
 -- "Y = iXZ"
 y-is-ixz : product (record { p = 1; a = 0; b = 0 }) (product (ofLetters (X ∷ [])) (ofLetters (Z ∷ []))) ≡ ofLetters (Y ∷ [])
@@ -47,14 +51,53 @@ xx-and-zz-commute : commutes (ofLetters (X ∷ X ∷ [])) (ofLetters (Z ∷ Z �
 unfolding opened
 xx-and-zz-commute = refl
 
--- a Y counts as one
-weight-iyyix : weight (ofLetters (I ∷ Y ∷ Y ∷ I ∷ X ∷ [])) ≡ 3
-unfolding opened
-weight-iyyix = refl
+-- ---- letters, masks and phases
 
-weightOf-iyyix : weightOf (I ∷ Y ∷ Y ∷ I ∷ X ∷ []) ≡ 3
+ixyz : List Letter
+ixyz = I ∷ X ∷ Y ∷ Z ∷ []
+
+-- X is at qubits 2 and 3, Z at 3 and 4, and the one Y gives the phase.
+letters : (ofLetters ixyz ≡ record { p = 1; a = 6; b = 12 }) × (lettersOf 4 (record { p = 0; a = 6; b = 12 }) ≡ ixyz)
+unfolding ixyz opened
+letters = (refl, refl)
+
+bits-lowest-first : bits 5 12 ≡ 0 ∷ 0 ∷ 1 ∷ 1 ∷ 0 ∷ []
 unfolding opened
-weightOf-iyyix = refl
+bits-lowest-first = refl
+
+texts : (rowText 4 (signedRow minus ixyz) ≡ bytes "-IXYZ") × (rowText 4 (signedRow plus ixyz) ≡ bytes "+IXYZ")
+unfolding ixyz opened
+texts = (refl, refl)
+
+-- a Y counts as one
+weights : (weight (ofLetters ixyz) ≡ 3) × (weightOf ixyz ≡ 3)
+unfolding ixyz opened
+weights = (refl, refl)
+
+-- Y with phases 1, 3 and 5 is +Y, -Y and +Y; with phase 0 it is no signed row.
+signed-rows :
+    map isSignedRow
+    (record { p = 1; a = 1; b = 1 } ∷ record { p = 3; a = 1; b = 1 } ∷ record { p = 5; a = 1; b = 1 } ∷ record { p = 0; a = 1; b = 1 } ∷ [])
+    ≡ true ∷ true ∷ true ∷ false ∷ []
+unfolding opened
+signed-rows = refl
+
+-- Two Paulis are the same, phase aside, where both masks are.
+masks-compared :
+    map (λ s. sameMasks (signedRow minus (X ∷ Z ∷ [])) (ofLetters s))
+    ((X ∷ Z ∷ []) ∷ (Z ∷ X ∷ []) ∷ (X ∷ I ∷ []) ∷ (I ∷ Z ∷ []) ∷ (Y ∷ Z ∷ []) ∷ (X ∷ Y ∷ []) ∷ [])
+    ≡ true ∷ false ∷ false ∷ false ∷ false ∷ false ∷ []
+unfolding opened
+masks-compared = refl
+
+-- Phases are compared modulo 4.
+phases-compared :
+    map (λ q. samePauli (record { p = 5; a = 1; b = 0 }) (record { p = q; a = 1; b = 0 })) (1 ∷ 9 ∷ 0 ∷ 3 ∷ [])
+    ≡ true ∷ true ∷ false ∷ false ∷ []
+unfolding opened
+phases-compared = refl
+
+-- ---- the order
 
 -- Y is smaller than Z, and a smaller weight comes first
 y-before-z : Earlier (I ∷ Y ∷ []) (I ∷ Z ∷ [])

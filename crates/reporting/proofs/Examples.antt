@@ -31,6 +31,11 @@ others =
       input = "n=6\nd=3\ng=+XZZXII\ng=+IXZZXI\ng=+XIXZZI\ng=+ZXIXZI\ng=-IIIIIX\nx=+XXXXXI\nz=+ZZZZZI\nw=IYYIXI\ns=00001\n";
       output = "n=6\nk=1\nd=3\nt=1\nh=+YZIZYI\nh=+IXZZXI\nh=+ZZXIXI\nh=+ZIZYYI\nh=-IIIIIX\nc=IIIIIY\n";
     }
+    -- Document 000, table 3.3: eight qubits, three of them logical.
+    ∷ record {
+      input = "n=8\nd=3\ng=+XXXXXXXX\ng=+ZZZZZZZZ\ng=+IXIXYZYZ\ng=+IXZYIXZY\ng=+IYXZXZIY\nx=+XXIIIZIZ\nx=+XIXZIIZI\nx=+XIIZXZII\nz=+IZIZIZIZ\nz=+IIZZIIZZ\nz=+IIIIZZZZ\nw=IIIIIZXY\n";
+      output = "n=8\nk=3\nd=3\nt=1\nh=+XZIYIYXZ\nh=+IXZYIXZY\nh=-IZXYZIYX\nh=-IIZZYYXX\nh=+ZZZZZZZZ\n";
+    }
     -- Document 000, table 3.5: 10 at line 6; with another last row 9 at line 8 comes before it.
     ∷ record { input = "n=4\nd=2\ng=+XZZX\ng=+YXXY\nx=+XXXX\nx=+XIXZ\nz=+YZYI\nz=+IXZZ\nw=XIXI\n"; output = "r=10\nat=6\n" }
     ∷ record { input = "n=4\nd=2\ng=+XZZX\ng=+YXXY\nx=+XXXX\nx=+XIXZ\nz=+YZYI\nz=+IXII\nw=XIXI\n"; output = "r=9\nat=8\n" }
@@ -51,7 +56,8 @@ others =
 
 all-right : All Right others
 unfolding others opened
-all-right = (refl, (refl, (refl, (refl, (refl, (refl, (refl, (refl, (refl, (refl, (refl, (refl, (refl, (refl, tt))))))))))))))
+all-right =
+    (refl, (refl, (refl, (refl, (refl, (refl, (refl, (refl, (refl, (refl, (refl, (refl, (refl, (refl, (refl, tt)))))))))))))))
 
 others-right : (e : Entry) → List·Memᴰ e others → reportText (bytes (e .input)) ≡ bytes (e .output)
 others-right = each Right others all-right

@@ -1,40 +1,54 @@
 -- The form of a sheet at its edges, computed: what is refused with which number at which line, and sheets that return.
 use mathlib.Core.Bool.{Bool, true, false, _&&_, cond}
-use mathlib.Core.List.{List, [], _∷_, map, List·Memᴰ}
+use mathlib.Core.List.{List, [], _∷_, _++_, map, List·Memᴰ}
 use mathlib.Core.Path.{_≡_, refl}
 use Prim.Native.Nat.{ℕ, zero, suc, _+_}
-use Prim.Native.String.{String, _++_}
+use Prim.Native.String.{String, _++_ as _⧺_}
 use lib.Dec.{eqb}
 use lib.ListN.{length, take, replicate}
 use Rattle.pauli.specs.Letters.{I, X, Y, Z, plus, minus, signedRow, ofLetters}
-use Rattle.pauli.specs.Lists.{bytes, allOf}
+use Rattle.pauli.specs.declared.Pauli.{Pauli}
+use Rattle.pauli.specs.Lists.{bytes, allOf, anyOf}
 use Rattle.pauli.specs.Product.{identity}
 use Rattle.pauli.proofs.Table.{All, each}
 use Rattle.sheet.specs.declared.Code.{Code}
 use Rattle.sheet.specs.declared.Family.{Family}
+use Rattle.sheet.specs.declared.Lines.{Lines}
 use Rattle.sheet.specs.declared.Refusal.{Refusal}
+use Rattle.sheet.specs.declared.Written.{Written}
 use Rattle.sheet.specs.Edges.{sheetA}
 use Rattle.sheet.specs.Opened.{opened}
-use Rattle.sheet.specs.Reader.{Parsed, got, stop, readForm}
-use Rattle.sheet.specs.Record.{codeOf, between, withinLimits, logicalCount, radius, claimedLine}
+use Rattle.sheet.specs.Reader.{Parsed, got, stop, readForm, linesReading, formReading}
+use Rattle.sheet.specs.Record.{codeOf, emptyCode, filled, between, withinLimits, logicalCount, radius, claimedLine}
 use Rattle.sheet.specs.Refusals.{values}
-use Rattle.sheet.specs.Text.{lineFeed}
-use Rattle.sheet.specs.Writer.{sheetText}
+use Rattle.sheet.specs.Text.{lineFeed, untouched}
+use Rattle.sheet.specs.Statements.{Sized}
+use Rattle.sheet.specs.Writer.{sheetText, writeSheet}
 
 -- ---- the numbers
 
--- Document 01's numbers, 1 to 17, in the order in which the cases stand.
+-- Each case at line 8, in the order in which they stand.
+cases : List Refusal
+cases =
+    Refusal.TooLong ∷ Refusal.Form 8 ∷ Refusal.QubitCount 8 ∷ Refusal.DistanceRange 8 ∷ Refusal.GeneratorCount 8
+    ∷ Refusal.GeneratorsAnticommute 8 Family.Generator ∷ Refusal.MinusIdentity 8 Family.Generator
+    ∷ Refusal.DependentGenerator 8 Family.Generator ∷ Refusal.LogicalAnticommutes 8 Family.LogicalX
+    ∷ Refusal.LogicalPairing 8 Family.LogicalZ ∷ Refusal.ClaimedWeight 8 ∷ Refusal.ClaimedAnticommutes 8
+    ∷ Refusal.ClaimedInGroup 8 ∷ Refusal.DistanceRefuted 8 (record { n = 0; e = identity; f = identity }) ∷ Refusal.RecordLimits
+    ∷ Refusal.Syndrome 8 ∷ Refusal.ShortBuffer ∷ []
+
 numbers :
-    map (λ refusal. values refusal .number)
-    (Refusal.TooLong ∷ Refusal.Form 0 ∷ Refusal.QubitCount 0 ∷ Refusal.DistanceRange 0 ∷ Refusal.GeneratorCount 0
-    ∷ Refusal.GeneratorsAnticommute 0 Family.Generator ∷ Refusal.MinusIdentity 0 Family.Generator
-    ∷ Refusal.DependentGenerator 0 Family.Generator ∷ Refusal.LogicalAnticommutes 0 Family.LogicalX
-    ∷ Refusal.LogicalPairing 0 Family.LogicalZ ∷ Refusal.ClaimedWeight 0 ∷ Refusal.ClaimedAnticommutes 0
-    ∷ Refusal.ClaimedInGroup 0 ∷ Refusal.DistanceRefuted 0 (record { n = 0; e = identity; f = identity })
-    ∷ Refusal.RecordLimits ∷ Refusal.Syndrome 0 ∷ Refusal.ShortBuffer ∷ [])
+    map (λ refusal. values refusal .number) cases
     ≡ 1 ∷ 2 ∷ 3 ∷ 4 ∷ 5 ∷ 6 ∷ 7 ∷ 8 ∷ 9 ∷ 10 ∷ 11 ∷ 12 ∷ 13 ∷ 14 ∷ 15 ∷ 16 ∷ 17 ∷ []
-unfolding opened
+unfolding cases opened
 numbers = refl
+
+-- 1, 15 and 17 name no line.
+lines-named :
+    map (λ refusal. values refusal .line) cases
+    ≡ 0 ∷ 8 ∷ 8 ∷ 8 ∷ 8 ∷ 8 ∷ 8 ∷ 8 ∷ 8 ∷ 8 ∷ 8 ∷ 8 ∷ 8 ∷ 8 ∷ 0 ∷ 8 ∷ 0 ∷ []
+unfolding cases opened
+lines-named = refl
 
 -- ---- refusals of the form
 
@@ -60,8 +74,10 @@ offForm =
     ∷ record { input = "n=3\nd=1\ng=+XII\ng=+IXI\ng=+IIX\n"; refusal = Refusal.GeneratorCount 5 }
     ∷ record { input = "n=3\nd=1\ng=+XII\ng=+IXI\ng="; refusal = Refusal.GeneratorCount 5 }
     ∷ record { input = "n=2\nd=1\ng=+ZZ\nz=+ZI\nx=+XX\nw=ZI\n"; refusal = Refusal.Form 4 }
-    ∷ record { input = sheetA ++ "\n"; refusal = Refusal.Form 10 }
-    ∷ record { input = sheetA ++ "s=0001\n"; refusal = Refusal.Form 10 }
+    ∷ record { input = "n=4\nd=2\ng=+XZZX\ng=+YXXY\nx=+XXXX\nz=+YZYI\nz=+IXZZ\nw=XIXI\n"; refusal = Refusal.Form 6 }
+    ∷ record { input = "n=4\nd=2\ng=+XZZX\ng=+YXXY\nx=+XXXX\nx=+XIXZ\nz=+YZYI\nw=XIXI\n"; refusal = Refusal.Form 8 }
+    ∷ record { input = sheetA ⧺ "\n"; refusal = Refusal.Form 10 }
+    ∷ record { input = sheetA ⧺ "s=0001\n"; refusal = Refusal.Form 10 }
     ∷ []
 
 abbrev RightRefusal : Entry → Type 0
@@ -70,7 +86,7 @@ RightRefusal e = readForm (bytes (e .input)) ≡ stop (e .refusal)
 all-refused : All RightRefusal offForm
 unfolding offForm opened
 all-refused =
-    (refl, (refl, (refl, (refl, (refl, (refl, (refl, (refl, (refl, (refl, (refl, (refl, (refl, (refl, (refl, (refl, (refl, (refl, tt))))))))))))))))))
+    (refl, (refl, (refl, (refl, (refl, (refl, (refl, (refl, (refl, (refl, (refl, (refl, (refl, (refl, (refl, (refl, (refl, (refl, (refl, (refl, tt))))))))))))))))))))
 
 off-form-refused : (e : Entry) → List·Memᴰ e offForm → readForm (bytes (e .input)) ≡ stop (e .refusal)
 off-form-refused = each RightRefusal offForm all-refused
@@ -129,11 +145,6 @@ written-a : sheetText codeA ≡ bytes sheetA
 unfolding codeA opened
 written-a = refl
 
--- its k, its t, the line of its w
-numbers-a : (logicalCount codeA ≡ 1) × (radius codeA ≡ 1) × (claimedLine codeA ≡ 9)
-unfolding codeA opened
-numbers-a = (refl, refl, refl)
-
 -- The longest sheet: n = 24, r = 1.
 code24 : Code
 code24 =
@@ -151,3 +162,87 @@ longest-returns = refl
 longest-within-limits : withinLimits code24 ≡ true
 unfolding code24 opened
 longest-within-limits = refl
+
+-- k, t and the line of w
+numbers-a : (logicalCount codeA ≡ 1) × (radius codeA ≡ 1) × (claimedLine codeA ≡ 9)
+unfolding codeA opened
+numbers-a = (refl, refl, refl)
+
+numbers-24 : (logicalCount code24 ≡ 23) × (radius code24 ≡ 3) × (claimedLine code24 ≡ 50)
+unfolding code24 opened
+numbers-24 = (refl, refl, refl)
+
+-- The arrays have their room, in a record that was read and in the empty one.
+rooms : Sized codeA × Sized emptyCode
+unfolding codeA opened
+rooms = (record { roomG = refl; roomX = refl; roomZ = refl }, record { roomG = refl; roomX = refl; roomZ = refl })
+
+-- ---- the limits of a record
+
+zz : Pauli
+zz = ofLetters (Z ∷ Z ∷ [])
+
+xx : Pauli
+xx = ofLetters (X ∷ X ∷ [])
+
+zi : Pauli
+zi = ofLetters (Z ∷ I ∷ [])
+
+-- On two qubits: a bit above the second, in either mask; and a phase that no signed row has.
+above-a : Pauli
+above-a = record { p = 0; a = 4; b = 0 }
+
+above-b : Pauli
+above-b = record { p = 0; a = 0; b = 4 }
+
+turned : Pauli
+turned = record { p = 1; a = 3; b = 0 }
+
+-- The record of K, with some of its values changed.
+codeK : (n d : ℕ) → (g x z w : Pauli) → Code
+codeK n d g x z w = codeOf n d (g ∷ []) (x ∷ []) (z ∷ []) w
+
+inside : List Code
+inside =
+    codeK 2 1 zz xx zi zi ∷ codeK 2 7 zz xx zi zi ∷ codeK 24 1 zz xx zi zi
+    ∷ codeK 2 1 (signedRow minus (Z ∷ Z ∷ [])) xx (record { p = 4; a = 0; b = 1 }) (record { p = 8; a = 0; b = 1 }) ∷ []
+
+outside : List Code
+outside =
+    codeK 25 1 zz xx zi zi ∷ codeK 1 1 identity identity identity identity ∷ codeK 2 0 zz xx zi zi ∷ codeK 2 8 zz xx zi zi
+    -- r is 0, and n
+    ∷ codeOf 2 1 [] (xx ∷ []) (zi ∷ []) zi ∷ codeOf 2 1 (zz ∷ xx ∷ []) [] [] zi
+    ∷ codeK 2 1 above-a xx zi zi ∷ codeK 2 1 above-b xx zi zi ∷ codeK 2 1 zz above-a zi zi ∷ codeK 2 1 zz xx above-b zi
+    ∷ codeK 2 1 zz xx zi above-a ∷ codeK 2 1 zz xx zi above-b
+    ∷ codeK 2 1 turned xx zi zi ∷ codeK 2 1 zz turned zi zi ∷ codeK 2 1 zz xx turned zi
+    -- w has sign -
+    ∷ codeK 2 1 zz xx zi (signedRow minus (Z ∷ I ∷ []))
+    -- an unused row is not I: of x, of z, of g
+    ∷ codeOf 2 1 (zz ∷ []) (xx ∷ xx ∷ []) (zi ∷ []) zi ∷ codeOf 2 1 (zz ∷ []) (xx ∷ []) (zi ∷ zi ∷ []) zi
+    ∷ record { n = 2; r = 1; d = 1; g = filled 32 (zz ∷ zz ∷ []); x = filled 24 (xx ∷ []); z = filled 24 (zi ∷ []); w = zi }
+    ∷ emptyCode ∷ []
+
+limits : (allOf withinLimits inside ≡ true) × (anyOf withinLimits outside ≡ false)
+unfolding inside outside codeK zz xx zi above-a above-b turned opened
+limits = (refl, refl)
+
+-- ---- the writer's call
+
+-- 17 at one byte less than the sheet has, 15 before it; the bytes behind the sheet stay.
+writer-refuses :
+    (writeSheet codeA (replicate 69 0) ≡ untouched (Written.Refused Refusal.ShortBuffer) (replicate 69 0))
+    × (writeSheet emptyCode [] ≡ untouched (Written.Refused Refusal.RecordLimits) [])
+unfolding codeA opened
+writer-refuses = (refl, refl)
+
+writer-writes : writeSheet codeA (replicate 72 7) ≡ record { answer = Written.Count 70; buffer = bytes sheetA ++ 7 ∷ 7 ∷ [] }
+unfolding codeA opened
+writer-writes = refl
+
+-- ---- the readings
+
+readings :
+    (linesReading (bytes (sheetA ⧺ "s=0001\n")) ≡ record { answer = Lines.Read 70; code = codeA })
+    × (formReading (bytes (sheetA ⧺ "s=0001\n")) ≡ record { answer = Lines.Refused (Refusal.Form 10); code = emptyCode })
+unfolding codeA opened
+readings = (refl, refl)

@@ -94,6 +94,11 @@ canonical-sign : canonicalRows 2 (rows ("+XX" ∷ "+YY" ∷ [])) ≡ rows ("+XX"
 unfolding rows opened
 canonical-sign = refl
 
+-- a row of Z alone has its first one among b1..bn
+canonical-z : canonicalRows 3 (rows ("+ZZI" ∷ "-IZZ" ∷ [])) ≡ rows ("-ZIZ" ∷ "-IZZ" ∷ [])
+unfolding rows opened
+canonical-z = refl
+
 canonical-eight : canonicalRows 8 eightQubits ≡ rows ("+XZIYIYXZ" ∷ "+IXZYIXZY" ∷ "-IZXYZIYX" ∷ "-IIZZYYXX" ∷ "+ZZZZZZZZ" ∷ [])
 unfolding eightQubits rows opened
 canonical-eight = refl
