@@ -1,17 +1,16 @@
 -- Other sheets at the edges, read by themselves and computed.
 use mathlib.Core.List.{[], _∷_}
-use mathlib.Core.Option.{some}
 use mathlib.Core.Path.{_≡_, refl}
 use Prim.Native.String.{String, _++_}
 use Rattle.pauli.specs.Letters.{I, X, Y, Z, ofLetters}
 use Rattle.pauli.specs.Lists.{bytes}
 use Rattle.sheet.specs.declared.Family.{Family}
 use Rattle.sheet.specs.declared.Refusal.{Refusal}
-use Rattle.sheet.specs.Edges.{nineQubits, sheetA, sheetC, sheetK}
+use Rattle.sheet.specs.Edges.{nineQubits, sheetC}
 use Rattle.sheet.specs.Record.{emptyCode}
 use Rattle.admission.specs.declared.Admission.{Admission}
 use Rattle.admission.specs.Admission.{readSheet}
-use Rattle.admission.specs.Distance.{distance, refutingPair}
+use Rattle.admission.specs.Distance.{refutingPair}
 use Rattle.admission.specs.Opened.{opened}
 
 -- Nine qubits: ZZ on 1-2 has weight 2, commutes with every generator, and is no logical error, since it is a generator.
@@ -40,14 +39,15 @@ refused-record : readSheet (bytes sheetC) .code ≡ emptyCode
 unfolding opened
 refused-record = refl
 
--- The distance of A and of K.
-distances : (distance (readSheet (bytes sheetA) .code) ≡ some 3) × (distance (readSheet (bytes sheetK) .code) ≡ some 1)
-unfolding opened
-distances = (refl, refl)
-
--- Six letters other than I: the first three are E, and the others F.
+-- Six letters other than I: the first three are E, and the others F. Of five, three are E.
 split-errors :
     refutingPair 7 (X ∷ I ∷ Z ∷ Y ∷ Z ∷ X ∷ Y ∷ [])
     ≡ record { n = 7; e = ofLetters (X ∷ I ∷ Z ∷ Y ∷ I ∷ I ∷ I ∷ []); f = ofLetters (I ∷ I ∷ I ∷ I ∷ Z ∷ X ∷ Y ∷ []) }
 unfolding opened
 split-errors = refl
+
+split-five :
+    refutingPair 5 (Y ∷ Y ∷ Z ∷ X ∷ Z ∷ [])
+    ≡ record { n = 5; e = ofLetters (Y ∷ Y ∷ Z ∷ I ∷ I ∷ []); f = ofLetters (I ∷ I ∷ I ∷ X ∷ Z ∷ []) }
+unfolding opened
+split-five = refl

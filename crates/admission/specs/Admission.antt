@@ -6,14 +6,15 @@ use Prim.Native.Nat.{ℕ}
 use Rattle.sheet.specs.declared.Code.{Code}
 use Rattle.sheet.specs.declared.Refusal.{Refusal}
 use Rattle.sheet.specs.Record.{generators, emptyCode}
-use Rattle.sheet.specs.Reader.{Parsed, got, stop, readForm}
-use Rattle.stabilizer.specs.Checks.{_then_, generatorFault}
+use Rattle.sheet.specs.Reader.{got, stop, readForm}
+use Rattle.sheet.specs.Refusals.{_then_}
+use Rattle.stabilizer.specs.Checks.{generatorFault}
 use Rattle.admission.specs.declared.Admission.{Admission}
 use Rattle.admission.specs.declared.Reading.{Reading}
 use Rattle.admission.specs.Logicals.{detectedFault, pairingFault}
 use Rattle.admission.specs.Distance.{claimedWeightFault, claimedDetectedFault, claimedInGroupFault, distanceFault}
 
--- 01: "Once the sheet is read, 6 to 14 run in table order": 6 to 13, and 14.
+-- 01: "Once the sheet is read, 6 to 14 run in table order, ..": 6 to 13, and then 14.
 unfoldable pub faultButDistance : Code → Option Refusal
 faultButDistance c =
     generatorFault (generators c) then detectedFault c then pairingFault c then claimedWeightFault c
@@ -28,6 +29,11 @@ refusedReading refusal = record { answer = Admission.Refused refusal; code = emp
 unfoldable pub admitted : Code → Reading
 admitted c = record { answer = Admission.Admitted; code = c }
 
+-- The refusal that an answer carries, where it is one.
+unfoldable pub admissionRefusal : Admission → Option Refusal
+admissionRefusal Admission.Admitted = none
+admissionRefusal (Admission.Refused refusal) = some refusal
+
 -- A sheet read by itself.
 unfoldable pub readSheet : List ℕ → Reading
 readSheet s =
@@ -36,7 +42,7 @@ readSheet s =
       | got c rest ↦ elim (codeFault c) [ some refusal ↦ refusedReading refusal | none ↦ admitted c ]
     ]
 
--- 01: "A sheet is lawful in all else if, read by itself, no check other than 14 faults it." c is the record that it is read to.
-pub record LawfulButForDistance (s : List ℕ) (c : Code) : Type 0 where
+-- 01's "lawful in all else": "read by itself, no check other than 14 faults it". c is the record that it is read to.
+pub record AdmissibleButForDistance (s : List ℕ) (c : Code) : Type 0 where
   pub form : readForm s ≡ got c []
   pub checks : faultButDistance c ≡ none

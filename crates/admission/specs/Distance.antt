@@ -1,20 +1,21 @@
 -- The checks of w, 11 to 13, and the distance, 14.
-use mathlib.Core.Bool.{Bool, not, _&&_}
-use mathlib.Core.List.{List, [], _∷_, map}
-use mathlib.Core.Option.{Option, none, some, Option·map}
-use Prim.Native.Nat.{ℕ, zero, suc, _+_, _-_, _/_}
+use mathlib.Core.Bool.{Bool, true, not, _&&_}
+use mathlib.Core.List.{List, [], _∷_}
+use mathlib.Core.Option.{Option, none, some}
+use mathlib.Core.Path.{_≡_}
+use Prim.Native.Nat.{ℕ, zero, suc, _+_, _-_, _/_, _≤_}
 use lib.Dec.{eqb}
 use Rattle.pauli.specs.declared.Pauli.{Pauli}
 use Rattle.pauli.specs.Lists.{anyOf, allOf, firstOf}
 use Rattle.pauli.specs.Product.{commutes, anticommutes, weight}
-use Rattle.pauli.specs.Letters.{Letter, I, X, Y, Z, ofLetters}
-use Rattle.pauli.specs.Order.{weightOf, stringsUpTo}
+use Rattle.pauli.specs.Letters.{Letter, I, ofLetters}
+use Rattle.pauli.specs.Order.{letterWeight, weightOf, stringsUpTo}
 use Rattle.sheet.specs.declared.Code.{Code}
 use Rattle.sheet.specs.declared.ErrorPair.{ErrorPair}
 use Rattle.sheet.specs.declared.Refusal.{Refusal}
-use Rattle.sheet.specs.Record.{generators, claimedLine}
-use Rattle.stabilizer.specs.Group.{inGroup}
-use Rattle.stabilizer.specs.Checks.{refuseIf}
+use Rattle.sheet.specs.Record.{generators, claimedLine, onQubits}
+use Rattle.sheet.specs.Refusals.{refuseIf}
+use Rattle.stabilizer.specs.Group.{InGroupUpToPhase, inGroupUpToPhase}
 
 -- 11: "weight not d"
 unfoldable pub claimedWeightFault : Code → Option Refusal
@@ -27,46 +28,44 @@ claimedDetectedFault c =
 
 -- 13: "in the group, phase aside"
 unfoldable pub claimedInGroupFault : Code → Option Refusal
-claimedInGroupFault c = refuseIf (inGroup (generators c) (c .w)) (Refusal.ClaimedInGroup (claimedLine c))
+claimedInGroupFault c = refuseIf (inGroupUpToPhase (generators c) (c .w)) (Refusal.ClaimedInGroup (claimedLine c))
 
 -- 01: "a logical error is a Pauli that commutes with every g row and is not, phase aside, in the group".
 unfoldable pub isLogicalError : List Pauli → Pauli → Bool
-isLogicalError rows P = allOf (commutes P) rows && not (inGroup rows P)
+isLogicalError rows P = allOf (commutes P) rows && not (inGroupUpToPhase rows P)
+
+-- The same as a proposition, about a Pauli on the code's qubits.
+pub record LogicalError (c : Code) (P : Pauli) : Type 0 where
+  pub onCode : onQubits (c .n) P ≡ true
+  pub undetected : allOf (commutes P) (generators c) ≡ true
+  pub outside : InGroupUpToPhase (generators c) P → ⊥
+
+-- 01: "the distance is the least weight of one."
+pub record IsDistance (c : Code) (v : ℕ) : Type 0 where
+  pub reached : (P : Pauli) × LogicalError c P × (weight P ≡ v)
+  pub least : (P : Pauli) → LogicalError c P → v ≤ weight P
 
 -- The earliest logical error of weight at most v, if there is one.
 unfoldable pub logicalErrorUpTo : Code → ℕ → Option (List Letter)
 logicalErrorUpTo c v = firstOf (λ s. isLogicalError (generators c) (ofLetters s)) (stringsUpTo (c .n) v)
 
--- 01: "the distance is the least weight of one."
-unfoldable pub distance : Code → Option ℕ
-distance c = Option·map weightOf (logicalErrorUpTo c (c .n))
-
--- The first m letters other than I, with I for all others; and the others, with I for those.
+-- The first m letters other than I; the others become I.
 unfoldable pub firstLetters : ℕ → List Letter → List Letter
-firstLetters zero ls = map (λ l. I) ls
-firstLetters (suc m) [] = []
-firstLetters (suc m) (I ∷ ls) = I ∷ firstLetters (suc m) ls
-firstLetters (suc m) (X ∷ ls) = X ∷ firstLetters m ls
-firstLetters (suc m) (Y ∷ ls) = Y ∷ firstLetters m ls
-firstLetters (suc m) (Z ∷ ls) = Z ∷ firstLetters m ls
+firstLetters m [] = []
+firstLetters zero (l ∷ ls) = I ∷ firstLetters zero ls
+firstLetters (suc m) (l ∷ ls) = l ∷ firstLetters (suc m - letterWeight l) ls
 
+-- All but the first m letters other than I; those become I.
 unfoldable pub otherLetters : ℕ → List Letter → List Letter
-otherLetters zero ls = ls
-otherLetters (suc m) [] = []
-otherLetters (suc m) (I ∷ ls) = I ∷ otherLetters (suc m) ls
-otherLetters (suc m) (X ∷ ls) = I ∷ otherLetters m ls
-otherLetters (suc m) (Y ∷ ls) = I ∷ otherLetters m ls
-otherLetters (suc m) (Z ∷ ls) = I ∷ otherLetters m ls
-
--- v/2, rounded up
-unfoldable pub halfUp : ℕ → ℕ
-halfUp v = (v + 1) / 2
+otherLetters m [] = []
+otherLetters zero (l ∷ ls) = l ∷ ls
+otherLetters (suc m) (l ∷ ls) = I ∷ otherLetters (suc m - letterWeight l) ls
 
 -- 01: "Refusal 14 carries two errors: from the earliest logical error, of weight v, E has its first v/2 letters other than I (rounded
 -- up) and F the rest, both with sign +."
 unfoldable pub refutingPair : ℕ → List Letter → ErrorPair
 refutingPair n s =
-    let half = halfUp (weightOf s) in
+    let half = (weightOf s + 1) / 2 in
     record { n = n; e = ofLetters (firstLetters half s); f = ofLetters (otherLetters half s) }
 
 -- 14: "a logical error of weight below d exists"

@@ -12,7 +12,8 @@ use Rattle.sheet.specs.declared.Code.{Code}
 use Rattle.sheet.specs.declared.Family.{Family}
 use Rattle.sheet.specs.declared.Refusal.{Refusal}
 use Rattle.sheet.specs.Record.{generators, logicalCount, logicalXs, logicalZs, logicalLine}
-use Rattle.stabilizer.specs.Checks.{firstFault, refuseIf}
+use Rattle.sheet.specs.Refusals.{refuseIf}
+use Rattle.stabilizer.specs.Checks.{firstFault}
 
 -- The x rows, then the z rows, as their lines follow each other. The rows before one tell its place, and so its family.
 unfoldable pub logicals : Code → List Pauli

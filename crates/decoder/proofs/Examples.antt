@@ -1,10 +1,8 @@
 -- Syndromes and corrections of small codes, computed.
-use mathlib.Core.List.{List, [], _∷_}
+use mathlib.Core.List.{[], _∷_, map}
 use mathlib.Core.Path.{_≡_, refl}
-use Prim.Native.Nat.{ℕ, _+_, _^_}
-use Prim.Native.String.{String}
-use Rattle.pauli.specs.declared.Pauli.{Pauli}
-use Rattle.pauli.specs.Letters.{Letter, I, X, Z, ofLetters}
+use Prim.Native.Nat.{_+_, _^_}
+use Rattle.pauli.specs.Letters.{I, X, Z, ofLetters}
 use Rattle.pauli.specs.Lists.{bytes}
 use Rattle.sheet.specs.declared.Code.{Code}
 use Rattle.sheet.specs.declared.Refusal.{Refusal}
@@ -67,13 +65,11 @@ decode-short = refl
 codeNine : Code
 codeNine = readSheet (bytes nineQubits) .code
 
-z-on-1 : writeSyndrome codeNine (ofLetters (Z ∷ [])) (bytes "abcdefgh") .buffer ≡ bytes "00000010"
+share-a-syndrome :
+    map (λ e. writeSyndrome codeNine (ofLetters e) (bytes "abcdefgh") .buffer) ((Z ∷ []) ∷ (I ∷ Z ∷ []) ∷ (I ∷ I ∷ Z ∷ []) ∷ [])
+    ≡ bytes "00000010" ∷ bytes "00000010" ∷ bytes "00000010" ∷ []
 unfolding codeNine opened
-z-on-1 = refl
-
-z-on-3 : writeSyndrome codeNine (ofLetters (I ∷ I ∷ Z ∷ [])) (bytes "abcdefgh") .buffer ≡ bytes "00000010"
-unfolding codeNine opened
-z-on-3 = refl
+share-a-syndrome = refl
 
 decode-nine : decode codeNine (bytes "00000010") (bytes "abcdefghi") .buffer ≡ bytes "IIZIIIIII"
 unfolding codeNine opened

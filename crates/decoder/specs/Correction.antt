@@ -42,3 +42,9 @@ decode c characters buffer =
           (untouched (Decoded.Refused Refusal.ShortBuffer) buffer)
     ])
     (untouched (Decoded.Refused Refusal.RecordLimits) buffer)
+
+-- The refusal that an answer carries, where it is one.
+unfoldable pub decodedRefusal : Decoded → Option Refusal
+decodedRefusal Decoded.Correction = none
+decodedRefusal Decoded.None = none
+decodedRefusal (Decoded.Refused refusal) = some refusal

@@ -4,7 +4,7 @@ use mathlib.Core.List.{List, map}
 use mathlib.Core.Logic.{_⊎_, _↔_}
 use mathlib.Core.Option.{none, some}
 use mathlib.Core.Path.{_≡_}
-use Prim.Native.Nat.{ℕ, _+_, _≤_, _<_}
+use Prim.Native.Nat.{ℕ, _+_, _%_, _^_, _≤_, _<_}
 use lib.ListN.{length}
 use Rattle.pauli.specs.declared.Pauli.{Pauli}
 use Rattle.pauli.specs.Letters.{Letter, ofLetters, letterByte}
@@ -13,14 +13,33 @@ use Rattle.pauli.specs.Product.{product, weight}
 use Rattle.sheet.specs.declared.Code.{Code}
 use Rattle.sheet.specs.declared.ErrorPair.{ErrorPair}
 use Rattle.sheet.specs.declared.Refusal.{Refusal}
-use Rattle.sheet.specs.Record.{generators, radius, onQubits, claimedLine}
+use Rattle.sheet.specs.Record.{generators, radius, onQubits, claimedLine, withinLimits}
+use Rattle.sheet.specs.Refusals.{values}
+use Rattle.sheet.specs.Statements.{RefusalLeaves}
 use Rattle.sheet.specs.Text.{laid, untouched}
-use Rattle.stabilizer.specs.Group.{InGroup}
+use Rattle.stabilizer.specs.Group.{InGroupUpToPhase}
 use Rattle.admission.specs.declared.Admission.{Admission}
-use Rattle.admission.specs.Admission.{LawfulButForDistance, refusedReading, admitted, readSheet}
+use Rattle.admission.specs.Admission.{AdmissibleButForDistance, refusedReading, admitted, readSheet}
 use Rattle.decoder.specs.declared.Decoded.{Decoded}
-use Rattle.decoder.specs.Syndrome.{syndrome, syndromeText}
-use Rattle.decoder.specs.Correction.{correction, decode}
+use Rattle.decoder.specs.Syndrome.{syndrome, syndromeText, syndromeRefusal, writeSyndrome}
+use Rattle.decoder.specs.Correction.{correction, decode, decodedRefusal}
+
+-- ---- the syndrome
+
+-- 01: "the Pauli's mask bits above qubit n change nothing."
+abbrev pub HighBitsChangeNothing : Type 0
+HighBitsChangeNothing =
+    (c : Code) (P : Pauli) → withinLimits c ≡ true
+    → syndrome (generators c) P ≡ syndrome (generators c) (record { p = P .p; a = P .a % 2 ^ c .n; b = P .b % 2 ^ c .n })
+
+-- ---- what a refusal leaves
+
+-- A refusal of either call leaves the buffer as it was, and so does the answer `none`.
+pub record DecoderRefusalsLeave : Type 0 where
+  pub syndromes : (c : Code) (P : Pauli) (buffer : List ℕ) → RefusalLeaves syndromeRefusal buffer (writeSyndrome c P buffer)
+  pub corrections : (c : Code) (characters buffer : List ℕ) → RefusalLeaves decodedRefusal buffer (decode c characters buffer)
+  pub missing : (c : Code) (characters buffer : List ℕ) → decode c characters buffer .answer ≡ Decoded.None
+      → decode c characters buffer .buffer ≡ buffer
 
 -- ---- the correction is the earliest
 
@@ -38,14 +57,14 @@ pub record CorrectionIsEarliest : Type 0 where
 
 -- ---- demand 3, first half
 
--- What demand 3 says of the error E under the code c. "E's syndrome has a correction, that correction weighs no more than E, and
--- correction times E is, phase aside, a product of generators." "Given that record and that syndrome, the decode call writes its letters or
--- refuses with 17, and never answers `none`."
+-- Demand 3 of an error E under the code c: "E's syndrome has a correction, that correction weighs no more than E, and correction times E
+-- is, phase aside, a product of generators." 01: "Given that record and that syndrome, the decode call writes its letters or refuses with 17,
+-- and never answers `none`."
 pub record IsCorrected (c : Code) (E : Pauli) : Type 0 where
   pub letters : List Letter
   pub found : correction c (syndrome (generators c) E) ≡ some letters
   pub light : weightOf letters ≤ weight E
-  pub mends : InGroup (generators c) (product (ofLetters letters) E)
+  pub mends : InGroupUpToPhase (generators c) (product (ofLetters letters) E)
   pub written : (buffer : List ℕ) → c .n ≤ length buffer
       → decode c (syndromeText (syndrome (generators c) E)) buffer
       ≡ record { answer = Decoded.Correction; buffer = laid (map letterByte letters) buffer }
@@ -67,22 +86,29 @@ pub record Refutes (c : Code) (E F : Pauli) : Type 0 where
   pub errorF : onQubits (c .n) F ≡ true
   pub light : weight E + weight F < c .d
   pub alike : syndrome (generators c) E ≡ syndrome (generators c) F
-  pub harmful : InGroup (generators c) (product E F) → ⊥
+  pub harmful : InGroupUpToPhase (generators c) (product E F) → ⊥
 
 abbrev pub Refuted : Code → Type 0
 Refuted c = (E : Pauli) × (F : Pauli) × Refutes c E F
 
--- The answer 14, with the pair that it carries.
-abbrev pub RefusedForDistance : List ℕ → Code → ErrorPair → Type 0
-RefusedForDistance s c pair = readSheet s ≡ refusedReading (Refusal.DistanceRefuted (claimedLine c) pair)
+-- The sheet is refused with number 14.
+abbrev pub RefusedForDistance : List ℕ → Refusal → Type 0
+RefusedForDistance s refusal = (readSheet s ≡ refusedReading refusal) × (values refusal .number ≡ 14)
 
--- "A sheet lawful in all else is refused for its distance exactly when" such a pair exists; "Two such are then shown. In every other case
+-- The two errors that the refusal carries, on the code's qubits and named at w.
+pub record Shows (c : Code) (refusal : Refusal) : Type 0 where
+  pub pair : ErrorPair
+  pub carried : values refusal .errors ≡ some pair
+  pub atClaim : values refusal .line ≡ claimedLine c
+  pub qubits : pair .n ≡ c .n
+  pub refutes : Refutes c (pair .e) (pair .f)
+
+-- "A sheet lawful in all else is refused for its distance exactly when" such a pair exists. "Two such are then shown. In every other case
 -- that sheet is admitted."
 pub record DistanceIsDecided : Type 0 where
-  pub exactly : (s : List ℕ) (c : Code) → LawfulButForDistance s c → ((pair : ErrorPair) × RefusedForDistance s c pair) ↔ Refuted c
-  pub shown : (s : List ℕ) (c : Code) (pair : ErrorPair) → LawfulButForDistance s c → RefusedForDistance s c pair
-      → (pair .n ≡ c .n) × Refutes c (pair .e) (pair .f)
-  pub otherwise : (s : List ℕ) (c : Code) → LawfulButForDistance s c → (Refuted c → ⊥) → readSheet s ≡ admitted c
+  pub exactly : (s : List ℕ) (c : Code) → AdmissibleButForDistance s c → ((refusal : Refusal) × RefusedForDistance s refusal) ↔ Refuted c
+  pub shown : (s : List ℕ) (c : Code) (refusal : Refusal) → AdmissibleButForDistance s c → RefusedForDistance s refusal → Shows c refusal
+  pub otherwise : (s : List ℕ) (c : Code) → AdmissibleButForDistance s c → (Refuted c → ⊥) → readSheet s ≡ admitted c
 
 -- Demand 3 in full.
 pub record Guarantee : Type 0 where

@@ -1,7 +1,7 @@
 -- Syndromes.
 use mathlib.Core.Bool.{Bool, true, false, cond, _&&_, Bool·beq}
 use mathlib.Core.List.{List, [], _∷_, map}
-use mathlib.Core.Option.{Option, none}
+use mathlib.Core.Option.{Option, none, some}
 use Prim.Native.Nat.{ℕ}
 use Prim.Native.Char.{code}
 use lib.Dec.{eqb, leb}
@@ -16,7 +16,8 @@ use Rattle.sheet.specs.Reader.{readEach}
 use Rattle.sheet.specs.Text.{After, laid, untouched}
 use Rattle.decoder.specs.declared.SyndromeAnswer.{SyndromeAnswer}
 
--- 01: "The syndrome of a Pauli has one bit for each g row, in sheet order: 1 if they anticommute."
+-- 01: "The syndrome of a Pauli has one bit for each g row, in sheet order: 1 if they anticommute; the Pauli's mask bits above qubit n
+-- change nothing": a row of a record within limits has none there.
 unfoldable pub syndrome : List Pauli → Pauli → List Bool
 syndrome rows P = map (λ g. anticommutes g P) rows
 
@@ -49,3 +50,8 @@ writeSyndrome c P buffer =
     (record { answer = SyndromeAnswer.Given; buffer = laid (syndromeText (syndrome (generators c) P)) buffer })
     (untouched (SyndromeAnswer.Refused Refusal.ShortBuffer) buffer))
     (untouched (SyndromeAnswer.Refused Refusal.RecordLimits) buffer)
+
+-- The refusal that an answer carries, where it is one.
+unfoldable pub syndromeRefusal : SyndromeAnswer → Option Refusal
+syndromeRefusal SyndromeAnswer.Given = none
+syndromeRefusal (SyndromeAnswer.Refused refusal) = some refusal

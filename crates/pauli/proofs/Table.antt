@@ -1,7 +1,7 @@
 -- A table of examples: what is proved of all its entries, one after the other, holds of each.
-use mathlib.Core.Path.{_≡_, sym, subst}
+use mathlib.Core.Path.{sym, subst}
 use mathlib.Core.List.{List, [], _∷_, List·Memᴰ, List·Memᴰ·cases-cons, List·Memᴰ·not-nil}
-use mathlib.Core.Logic.{_⊎_, ⊎-elim}
+use mathlib.Core.Logic.{⊎-elim}
 
 module _ {A : Type 0} (Right : A → Type 0) where
   abbrev pub All : List A → Type 0

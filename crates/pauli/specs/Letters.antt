@@ -12,14 +12,14 @@ use Rattle.pauli.specs.Product.{hasPhase}
 pub data Letter : Type 0 where
   I X Y Z : Letter
 
--- 01: "A letter is chosen by its mask bits: I 00, X 10, Z 01, Y 11."
+-- 01: "A letter is chosen by its mask bits: I 00, X 10, Z 01, Y 11, where Y = iXZ."
 unfoldable pub letterAt : ℕ → ℕ → Letter
 letterAt zero zero = I
 letterAt (suc a) zero = X
 letterAt zero (suc b) = Z
 letterAt (suc a) (suc b) = Y
 
--- The same from the letter's side: its bit in the X mask, and in the Z mask.
+-- The other way round: a letter's bit in the X mask, and in the Z mask.
 unfoldable pub xBit : Letter → ℕ
 xBit I = 0
 xBit X = 1

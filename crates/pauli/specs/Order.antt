@@ -2,8 +2,9 @@
 -- 01: "'Earlier' means smaller weight, then, at the first qubit where two strings differ, the smaller letter in I, X, Y, Z."
 use mathlib.Core.Path.{_≡_}
 use mathlib.Core.Logic.{_⊎_}
-use mathlib.Core.List.{List, [], _∷_, _++_, map}
-use Prim.Native.Nat.{ℕ, zero, suc, _<_}
+use mathlib.Core.List.{List, [], _∷_, _++_, map, flatMap}
+use Prim.Native.Nat.{ℕ, zero, suc, _+_, _<_}
+use lib.ListN.{replicate}
 use Rattle.pauli.specs.Letters.{Letter, I, X, Y, Z}
 
 -- The letters I, X, Y, Z in their order.
@@ -14,12 +15,15 @@ rank Y = 2
 rank Z = 3
 
 -- 01: "The weight counts the letters other than I."
+unfoldable pub letterWeight : Letter → ℕ
+letterWeight I = 0
+letterWeight X = 1
+letterWeight Y = 1
+letterWeight Z = 1
+
 unfoldable pub weightOf : List Letter → ℕ
 weightOf [] = 0
-weightOf (I ∷ ls) = weightOf ls
-weightOf (X ∷ ls) = suc (weightOf ls)
-weightOf (Y ∷ ls) = suc (weightOf ls)
-weightOf (Z ∷ ls) = suc (weightOf ls)
+weightOf (l ∷ ls) = letterWeight l + weightOf ls
 
 -- At the first qubit where the two strings differ, the first has the smaller letter.
 unfoldable pub SmallerLetter : List Letter → List Letter → Type 0
@@ -31,14 +35,12 @@ SmallerLetter (l ∷ ls) (m ∷ ms) = (rank l < rank m) ⊎ ((l ≡ m) × Smalle
 unfoldable pub Earlier : List Letter → List Letter → Type 0
 Earlier s t = (weightOf s < weightOf t) ⊎ ((weightOf s ≡ weightOf t) × SmallerLetter s t)
 
--- All strings of n letters with weight v, the earliest first: the strings that begin with I, then with X, Y, Z.
+-- All strings of n letters with weight v, the earliest first: those that begin with I, then those that begin with X, Y, Z.
 unfoldable pub strings : ℕ → ℕ → List (List Letter)
-strings zero zero = [] ∷ []
+strings n zero = replicate n I ∷ []
 strings zero (suc v) = []
-strings (suc n) zero = map (λ s. I ∷ s) (strings n zero)
 strings (suc n) (suc v) =
-    map (λ s. I ∷ s) (strings n (suc v)) ++ map (λ s. X ∷ s) (strings n v) ++ map (λ s. Y ∷ s) (strings n v)
-    ++ map (λ s. Z ∷ s) (strings n v)
+    map (λ s. I ∷ s) (strings n (suc v)) ++ flatMap (λ l. map (λ s. l ∷ s) (strings n v)) (X ∷ Y ∷ Z ∷ [])
 
 -- All strings of n letters with weight at most t, the earliest first.
 unfoldable pub stringsUpTo : ℕ → ℕ → List (List Letter)

@@ -1,3 +1,4 @@
 pub mod Report
+pub mod Starred
 pub mod Opened
 pub mod Statements

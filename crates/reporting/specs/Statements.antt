@@ -1,41 +1,55 @@
 -- What is stated of the report.
-use mathlib.Core.Bool.{true}
-use mathlib.Core.List.{List, [], _∷_, _++_, map, flatMap}
+use mathlib.Core.Bool.{Bool}
+use mathlib.Core.List.{List, [], _++_, map, flatMap, List·Mem}
+use mathlib.Core.Option.{some}
 use mathlib.Core.Path.{_≡_}
 use Prim.Native.Nat.{ℕ, _≤_}
 use lib.ListN.{length}
 use Rattle.pauli.specs.declared.Pauli.{Pauli}
 use Rattle.pauli.specs.Letters.{letterByte}
-use Rattle.pauli.specs.Lists.{allOf}
 use Rattle.sheet.specs.declared.Code.{Code}
+use Rattle.sheet.specs.declared.Refusal.{Refusal}
+use Rattle.sheet.specs.Reader.{got, readForm}
 use Rattle.sheet.specs.Record.{generators}
+use Rattle.sheet.specs.Refusals.{writtenRefusal}
+use Rattle.sheet.specs.Statements.{RefusalLeaves}
 use Rattle.sheet.specs.Text.{line}
 use Rattle.admission.specs.declared.Admission.{Admission}
-use Rattle.admission.specs.Admission.{readSheet}
+use Rattle.admission.specs.Admission.{codeFault, readSheet}
 use Rattle.decoder.specs.Syndrome.{syndrome, syndromeText}
 use Rattle.decoder.specs.Statements.{IsCorrected}
-use Rattle.reporting.specs.Report.{codeText, reportText}
+use Rattle.reporting.specs.Report.{codeText, correctionLine, refusalText, reportText, writeReport}
 
 -- 01: "32,768 bytes always hold its output."
 abbrev pub ReportFits : Type 0
 ReportFits = (s : List ℕ) → length (reportText s) ≤ 32768
 
--- An error with what demand 3 says of it under the code c.
-pub record Struck (c : Code) : Type 0 where
-  pub error : Pauli
-  pub corrected : IsCorrected c error
+-- The one refusal of a report's call, 17, leaves the buffer as it was.
+abbrev pub ReportRefusalsLeave : Type 0
+ReportRefusalsLeave = (s buffer : List ℕ) → RefusalLeaves writtenRefusal buffer (writeReport s buffer)
 
--- The `s=` line of an error's syndrome, and the `c=` line of its correction.
-abbrev pub syndromeOf : {c : Code} → Struck c → List ℕ
-syndromeOf {c} e = line "s=" (syndromeText (syndrome (generators c) (e .error)))
+-- A sheet that 6 to 14 refuse has that refusal as its report, whatever stands behind it. So the `e=` and `f=` of a report are the two errors
+-- that refusal 14 carries.
+abbrev pub RefusalsAreReported : Type 0
+RefusalsAreReported =
+    (s rest : List ℕ) (c : Code) (refusal : Refusal) → readForm s ≡ got c [] → codeFault c ≡ some refusal
+    → length (s ++ rest) ≤ 4096 → reportText (s ++ rest) ≡ refusalText refusal
 
-abbrev pub correctionOf : {c : Code} → Struck c → List ℕ
-correctionOf e = line "c=" (map letterByte (e .corrected .letters))
+-- The `s=` line of a syndrome.
+abbrev pub syndromeLineText : List Bool → List ℕ
+syndromeLineText bits = line "s=" (syndromeText bits)
 
--- 01: the correction for E's syndrome is the same "in a decode call and in a report's `c=` line alike": a report of an admitted sheet and
--- the syndromes of any errors that are corrected has those corrections as its `c=` lines.
+-- An admitted sheet and any syndromes behind it have one `c=` line for each syndrome.
+abbrev pub SyndromesAreReported : Type 0
+SyndromesAreReported =
+    (s : List ℕ) (syndromes : List (List Bool)) → readSheet s .answer ≡ Admission.Admitted
+    → ((bits : List Bool) → List·Mem bits syndromes → length bits ≡ readSheet s .code .r)
+    → length (s ++ flatMap syndromeLineText syndromes) ≤ 4096
+    → reportText (s ++ flatMap syndromeLineText syndromes)
+    ≡ codeText (readSheet s .code) ++ flatMap (correctionLine (readSheet s .code)) syndromes
+
+-- Demand 3 for the `c=` line: of an error that is corrected it has the correction's letters.
 abbrev pub CorrectionsAreReported : Type 0
 CorrectionsAreReported =
-    (s : List ℕ) → readSheet s .answer ≡ Admission.Admitted → (errors : List (Struck (readSheet s .code)))
-    → length (s ++ flatMap syndromeOf errors) ≤ 4096
-    → reportText (s ++ flatMap syndromeOf errors) ≡ codeText (readSheet s .code) ++ flatMap correctionOf errors
+    (c : Code) (E : Pauli) (corrected : IsCorrected c E)
+    → correctionLine c (syndrome (generators c) E) ≡ line "c=" (map letterByte (corrected .letters))

@@ -49,7 +49,7 @@ sheetJ = "n=4\nd=1\ng=+XXII\ng=+ZZII\ng=-YYII\nx=+IIXI\nz=+IIZI\nw=IIXI\n"
 unfoldable pub sheetK : String
 sheetK = "n=2\nd=1\ng=+ZZ\nx=+XX\nz=+ZI\nw=ZI\n"
 
--- "seven qubits, three g rows with X at the ones of 0001111, 0110011, 1010101 in turn, then three with Z at the same, all signs +, x
+-- "seven qubits, three g rows with X at the ones of 0001111, 0110011, 1010101 in turn .., then three with Z at the same, all signs +, x
 -- all X, z all Z, w=XXXIIII, d=3"
 unfoldable pub sheetL : String
 sheetL =

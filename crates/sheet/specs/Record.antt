@@ -1,7 +1,7 @@
 -- The code record: its rows, its lines, its limits.
-use mathlib.Core.Bool.{Bool, _&&_}
+use mathlib.Core.Bool.{Bool, not, _&&_}
 use mathlib.Core.List.{List, _++_}
-use mathlib.Core.Option.{Option, none, some}
+use mathlib.Core.Option.{Option}
 use Prim.Native.Nat.{ℕ, _+_, _-_, _*_, _/_, _^_}
 use lib.Dec.{leb, ltb}
 use lib.ListN.{length, take, drop, replicate}
@@ -11,6 +11,7 @@ use Rattle.pauli.specs.Product.{identity, samePauli}
 use Rattle.pauli.specs.Letters.{plus, hasSign, isSignedRow}
 use Rattle.sheet.specs.declared.Code.{Code}
 use Rattle.sheet.specs.declared.Refusal.{Refusal}
+use Rattle.sheet.specs.Refusals.{refuseIf}
 
 -- 01: "k = n - r, r being the number of g lines."
 unfoldable pub logicalCount : Code → ℕ
@@ -39,7 +40,7 @@ logicalLine c = generatorLine + c .r
 unfoldable pub claimedLine : Code → ℕ
 claimedLine c = logicalLine c + 2 * logicalCount c
 
--- The first m rows of an array, with I behind them.
+-- Rows in an array of m places, with +I in the places behind them.
 unfoldable pub filled : ℕ → List Pauli → List Pauli
 filled m rows = rows ++ replicate (m - length rows) identity
 
@@ -78,3 +79,7 @@ unfoldable pub withinLimits : Code → Bool
 withinLimits c =
     between 2 24 (c .n) && between 1 (c .n - 1) (c .r) && between 1 7 (c .d) && areRows (c .n) (c .r) (c .g)
     && areRows (c .n) (logicalCount c) (c .x) && areRows (c .n) (logicalCount c) (c .z) && isClaim (c .n) (c .w)
+
+-- 15, where a record is outside its limits.
+unfoldable pub limitsFault : Code → Option Refusal
+limitsFault c = refuseIf (not (withinLimits c)) Refusal.RecordLimits

@@ -1,10 +1,14 @@
+-- What each refusal is in 01's terms.
 -- 01: "When an answer is an enum, a definition sets out this paper's number and values for each of its cases."
+use mathlib.Core.Bool.{Bool, cond}
 use mathlib.Core.Option.{Option, none, some}
 use Prim.Native.Nat.{ℕ}
 use Rattle.sheet.specs.declared.ErrorPair.{ErrorPair}
 use Rattle.sheet.specs.declared.Family.{Family}
+use Rattle.sheet.specs.declared.Lines.{Lines}
 use Rattle.sheet.specs.declared.Refusal.{Refusal}
 use Rattle.sheet.specs.declared.Refusal.the-variants.{TooLong, Form, QubitCount, DistanceRange, GeneratorCount, GeneratorsAnticommute, MinusIdentity, DependentGenerator, LogicalAnticommutes, LogicalPairing, ClaimedWeight, ClaimedAnticommutes, ClaimedInGroup, DistanceRefuted, RecordLimits, Syndrome, ShortBuffer}
+use Rattle.sheet.specs.declared.Written.{Written}
 
 -- What the table of 01 gives of a refusal: its number, the line named (0 for none), its family, its two errors.
 pub record Values : Type 0 where
@@ -16,7 +20,7 @@ pub record Values : Type 0 where
 unfoldable pub plain : ℕ → ℕ → Values
 plain number line = record { number = number; line = line; family = none; errors = none }
 
--- 01: "A refusal about a row carries its family beside the line."
+-- 01: "A refusal about a row carries its family beside the line: generator, X logical or Z logical."
 unfoldable pub ofRow : ℕ → ℕ → Family → Values
 ofRow number line family = record { number = number; line = line; family = some family; errors = none }
 
@@ -38,3 +42,22 @@ values (DistanceRefuted line pair) = record { number = 14; line = line; family =
 values RecordLimits = plain 15 0
 values (Syndrome line) = plain 16 line
 values ShortBuffer = plain 17 0
+
+-- The refusal that an answer carries, where it is one.
+unfoldable pub linesRefusal : Lines → Option Refusal
+linesRefusal (Lines.Read used) = none
+linesRefusal (Lines.Refused refusal) = some refusal
+
+unfoldable pub writtenRefusal : Written → Option Refusal
+writtenRefusal (Written.Count m) = none
+writtenRefusal (Written.Refused refusal) = some refusal
+
+-- The refusal where the test holds.
+unfoldable pub refuseIf : Bool → Refusal → Option Refusal
+refuseIf test refusal = cond test (some refusal) none
+
+-- 01: "The first fault met is the answer."
+infixr 20 _then_
+unfoldable pub _then_ : Option Refusal → Option Refusal → Option Refusal
+none then next = next
+(some refusal) then next = some refusal

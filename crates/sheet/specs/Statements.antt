@@ -1,14 +1,18 @@
 -- What is stated of the reader and the writer together.
 use mathlib.Core.Bool.{true}
-use mathlib.Core.List.{List, [], map}
+use mathlib.Core.List.{List, [], _++_, map}
+use mathlib.Core.Option.{Option, some}
 use mathlib.Core.Path.{_≡_}
 use Prim.Native.Nat.{ℕ, _%_, _≤_}
 use lib.ListN.{length}
 use Rattle.pauli.specs.declared.Pauli.{Pauli}
 use Rattle.sheet.specs.declared.Code.{Code}
-use Rattle.sheet.specs.Reader.{got, readForm}
+use Rattle.sheet.specs.declared.Refusal.{Refusal}
+use Rattle.sheet.specs.Reader.{got, readForm, readLines}
 use Rattle.sheet.specs.Record.{withinLimits}
-use Rattle.sheet.specs.Writer.{sheetText}
+use Rattle.sheet.specs.Refusals.{writtenRefusal}
+use Rattle.sheet.specs.Text.{After}
+use Rattle.sheet.specs.Writer.{sheetText, writeSheet}
 
 -- A record as a machine holds it: each array has its room.
 pub record Sized (c : Code) : Type 0 where
@@ -24,19 +28,34 @@ unfoldable pub phasesModulo4 : Code → Code
 phasesModulo4 c =
     record { n = c .n; r = c .r; d = c .d; g = map modulo4 (c .g); x = map modulo4 (c .x); z = map modulo4 (c .z); w = modulo4 (c .w) }
 
--- Reading what was written of a record within limits gives that record.
+-- Reading what was written of a record within limits gives that record, and what stood behind it.
 abbrev pub ReadAfterWrite : Type 0
-ReadAfterWrite = (c : Code) → Sized c → withinLimits c ≡ true → readForm (sheetText c) ≡ got (phasesModulo4 c) []
+ReadAfterWrite =
+    (c : Code) (rest : List ℕ) → Sized c → withinLimits c ≡ true → length (sheetText c ++ rest) ≤ 4096
+    → readLines (sheetText c ++ rest) ≡ got (phasesModulo4 c) rest
 
--- Writing what was read of a sheet that passes its form gives those bytes.
+-- Writing what was read gives the bytes that were read.
 abbrev pub WriteAfterRead : Type 0
-WriteAfterRead = (s : List ℕ) (c : Code) → readForm s ≡ got c [] → sheetText c ≡ s
+WriteAfterRead = (s : List ℕ) (c : Code) (rest : List ℕ) → readLines s ≡ got c rest → sheetText c ++ rest ≡ s
 
--- What is read is a record within limits.
-abbrev pub ReadWithinLimits : Type 0
-ReadWithinLimits = (s : List ℕ) (c : Code) → readForm s ≡ got c [] → withinLimits c ≡ true
+-- What is read is a record within limits, as a machine holds it, with phases 0 to 3.
+pub record ReadIsLawful (c : Code) : Type 0 where
+  pub sized : Sized c
+  pub limits : withinLimits c ≡ true
+  pub phases : phasesModulo4 c ≡ c
+
+abbrev pub ReadsAreLawful : Type 0
+ReadsAreLawful = (s : List ℕ) (c : Code) (rest : List ℕ) → readLines s ≡ got c rest → ReadIsLawful c
 
 -- 01: "The longest sheet has n = 24, r = 1, and 1,352 bytes."
 pub record LongestSheet : Type 0 where
-  pub most : (c : Code) → Sized c → withinLimits c ≡ true → length (sheetText c) ≤ 1352
-  pub reached : (c : Code) → Sized c → withinLimits c ≡ true → c .n ≡ 24 → c .r ≡ 1 → length (sheetText c) ≡ 1352
+  pub most : (s : List ℕ) (c : Code) → readForm s ≡ got c [] → length s ≤ 1352
+  pub reached : (s : List ℕ) × (c : Code) × (readForm s ≡ got c []) × (c .n ≡ 24) × (c .r ≡ 1) × (length s ≡ 1352)
+
+-- 01: "Every refusal leaves them untouched": where the answer of a call carries a refusal, the buffer is what it was.
+abbrev pub RefusalLeaves : {A : Type 0} → (A → Option Refusal) → List ℕ → After A → Type 0
+RefusalLeaves refusalOf buffer after =
+    (refusal : Refusal) → refusalOf (after .answer) ≡ some refusal → after .buffer ≡ buffer
+
+abbrev pub WriterRefusalsLeave : Type 0
+WriterRefusalsLeave = (c : Code) (buffer : List ℕ) → RefusalLeaves writtenRefusal buffer (writeSheet c buffer)

@@ -1,6 +1,7 @@
 -- Texts: lines and numbers, and what an output buffer holds after a call.
 use mathlib.Core.Bool.{cond, true, false}
 use mathlib.Core.List.{List, [], _∷_, _++_}
+use mathlib.Core.Option.{Option, none, some}
 use Prim.Native.Nat.{ℕ, zero, suc, _+_, _/_, _%_}
 use Prim.Native.Char.{code}
 use Prim.Native.String.{String}
@@ -36,13 +37,19 @@ pub record After (A : Type 0) : Type 0 where
 unfoldable pub laid : List ℕ → List ℕ → List ℕ
 laid text buffer = text ++ drop (length text) buffer
 
--- 01: "Every refusal leaves them untouched."
+-- 01: "Every refusal leaves them untouched, except that a report writes refusals 1 to 14 and 16 as text."
 unfoldable pub untouched : {A : Type 0} → A → List ℕ → After A
 untouched answer buffer = record { answer = answer; buffer = buffer }
 
 -- A call whose answer is a text: 17 where the buffer is shorter, else the text and its count of bytes.
+-- 01: "A report, the writer and a tidying return the count of bytes written; the bytes behind an answer stay."
 unfoldable pub written : List ℕ → List ℕ → After Written
 written text buffer =
     cond (leb (length text) (length buffer))
     (record { answer = Written.Count (length text); buffer = laid text buffer })
     (untouched (Written.Refused Refusal.ShortBuffer) buffer)
+
+-- The same behind other checks.
+unfoldable pub writtenUnless : Option Refusal → List ℕ → List ℕ → After Written
+writtenUnless none text buffer = written text buffer
+writtenUnless (some refusal) text buffer = untouched (Written.Refused refusal) buffer

@@ -1,15 +1,13 @@
 -- The writer as a function from a record to bytes.
-use mathlib.Core.Bool.{cond}
 use mathlib.Core.List.{List, _++_, flatMap}
 use Prim.Native.Nat.{ℕ}
 use Prim.Native.String.{String}
 use Rattle.pauli.specs.declared.Pauli.{Pauli}
 use Rattle.pauli.specs.Letters.{letterText, rowText}
 use Rattle.sheet.specs.declared.Code.{Code}
-use Rattle.sheet.specs.declared.Refusal.{Refusal}
 use Rattle.sheet.specs.declared.Written.{Written}
-use Rattle.sheet.specs.Text.{line, decimal, After, untouched, written}
-use Rattle.sheet.specs.Record.{generators, logicalXs, logicalZs, withinLimits}
+use Rattle.sheet.specs.Text.{line, decimal, After, writtenUnless}
+use Rattle.sheet.specs.Record.{generators, logicalXs, logicalZs, limitsFault}
 
 unfoldable pub rowLines : String → ℕ → List Pauli → List ℕ
 rowLines key n rows = flatMap (λ P. line key (rowText n P)) rows
@@ -22,5 +20,4 @@ sheetText c =
 
 -- The writer's call: 15, then 17, then the sheet's bytes and their count.
 unfoldable pub writeSheet : Code → List ℕ → After Written
-writeSheet c buffer =
-    cond (withinLimits c) (written (sheetText c) buffer) (untouched (Written.Refused Refusal.RecordLimits) buffer)
+writeSheet c buffer = writtenUnless (limitsFault c) (sheetText c) buffer

@@ -2,7 +2,7 @@
 use pauli::Pauli;
 
 // The code that a sheet describes: n qubits, r generators, claimed distance d. The first r rows of g are the generators,
-// the first n - r of x and of z the logical operators, and w is the claimed minimum-weight logical. Unused rows are I.
+// the first n - r of x and of z the logical operators, and w is the claimed minimum-weight logical. Unused rows are +I.
 pub struct Code {
     pub n: usize,
     pub r: usize,

@@ -1,7 +1,7 @@
 -- The group's checks and canonical generators of small row lists, computed.
 use mathlib.Core.Bool.{true, false}
 use mathlib.Core.List.{List, [], _∷_, map}
-use mathlib.Core.Option.{Option, none, some, Option·getD}
+use mathlib.Core.Option.{none, some, Option·getD}
 use mathlib.Core.Path.{_≡_, refl}
 use Prim.Native.String.{String}
 use Rattle.pauli.specs.declared.Pauli.{Pauli}
@@ -15,9 +15,9 @@ use Rattle.sheet.specs.declared.Written.{Written}
 use Rattle.sheet.specs.Reader.{readRow}
 use Rattle.sheet.specs.Record.{codeOf, emptyCode}
 use Rattle.sheet.specs.Text.{untouched}
-use Rattle.stabilizer.specs.Canonical.{canonicalRows, writeCanonical}
+use Rattle.stabilizer.specs.Canonical.{canonicalGenerators, writeCanonical}
 use Rattle.stabilizer.specs.Checks.{generatorFault}
-use Rattle.stabilizer.specs.Group.{inGroup}
+use Rattle.stabilizer.specs.Group.{inGroupUpToPhase}
 use Rattle.stabilizer.specs.Opened.{opened}
 
 -- Rows as they are written.
@@ -70,36 +70,36 @@ unfolding rows
 fiveQubits = rows ("+XZZXI" ∷ "+IXZZX" ∷ "+XIXZZ" ∷ "+ZXIXZ" ∷ [])
 
 -- the product of the first two rows, phase aside; and a logical operator
-member : inGroup fiveQubits (Option·getD (readRow (bytes "-XYIYX")) identity) ≡ true
+member : inGroupUpToPhase fiveQubits (Option·getD (readRow (bytes "-XYIYX")) identity) ≡ true
 unfolding fiveQubits opened
 member = refl
 
-not-member : inGroup fiveQubits (Option·getD (readRow (bytes "+XXXXX")) identity) ≡ false
+not-member : inGroupUpToPhase fiveQubits (Option·getD (readRow (bytes "+XXXXX")) identity) ≡ false
 unfolding fiveQubits opened
 not-member = refl
 
 -- ---- canonical generators
 
--- those of A, from its rows in any order
-canonical-a : canonicalRows 5 fiveQubits ≡ rows ("+YZIZY" ∷ "+IXZZX" ∷ "+ZZXIX" ∷ "+ZIZYY" ∷ [])
+-- those of A, from its rows as they stand and in another order
+canonical-a : canonicalGenerators 5 fiveQubits ≡ rows ("+YZIZY" ∷ "+IXZZX" ∷ "+ZZXIX" ∷ "+ZIZYY" ∷ [])
 unfolding fiveQubits rows opened
 canonical-a = refl
 
-canonical-any-order : canonicalRows 5 (rows ("+ZXIXZ" ∷ "+IXZZX" ∷ "+XZZXI" ∷ "+XIXZZ" ∷ [])) ≡ canonicalRows 5 fiveQubits
+canonical-other-order : canonicalGenerators 5 (rows ("+ZXIXZ" ∷ "+IXZZX" ∷ "+XZZXI" ∷ "+XIXZZ" ∷ [])) ≡ canonicalGenerators 5 fiveQubits
 unfolding fiveQubits rows opened
-canonical-any-order = refl
+canonical-other-order = refl
 
 -- signs follow the product rule
-canonical-sign : canonicalRows 2 (rows ("+XX" ∷ "+YY" ∷ [])) ≡ rows ("+XX" ∷ "-ZZ" ∷ [])
+canonical-sign : canonicalGenerators 2 (rows ("+XX" ∷ "+YY" ∷ [])) ≡ rows ("+XX" ∷ "-ZZ" ∷ [])
 unfolding rows opened
 canonical-sign = refl
 
 -- a row of Z alone has its first one among b1..bn
-canonical-z : canonicalRows 3 (rows ("+ZZI" ∷ "-IZZ" ∷ [])) ≡ rows ("-ZIZ" ∷ "-IZZ" ∷ [])
+canonical-z : canonicalGenerators 3 (rows ("+ZZI" ∷ "-IZZ" ∷ [])) ≡ rows ("-ZIZ" ∷ "-IZZ" ∷ [])
 unfolding rows opened
 canonical-z = refl
 
-canonical-eight : canonicalRows 8 eightQubits ≡ rows ("+XZIYIYXZ" ∷ "+IXZYIXZY" ∷ "-IZXYZIYX" ∷ "-IIZZYYXX" ∷ "+ZZZZZZZZ" ∷ [])
+canonical-eight : canonicalGenerators 8 eightQubits ≡ rows ("+XZIYIYXZ" ∷ "+IXZYIXZY" ∷ "-IZXYZIYX" ∷ "-IIZZYYXX" ∷ "+ZZZZZZZZ" ∷ [])
 unfolding eightQubits rows opened
 canonical-eight = refl
 

@@ -1,24 +1,24 @@
 -- Canonical generators, which 01 calls tidy rows.
 -- 01: "Tidy rows generate the same signed group. Read as bits a1..an, b1..bn they are in reduced echelon form: each row's first
 -- one stands alone in its column, and those columns rise. Signs follow the product rule."
-use mathlib.Core.Bool.{Bool, true, false, cond}
+use mathlib.Core.Bool.{true, false, cond}
 use mathlib.Core.List.{List, [], _∷_, _++_, map, foldl}
 use mathlib.Core.Logic.{_↔_, _≢_}
-use mathlib.Core.Option.{none, some}
 use mathlib.Core.Path.{_≡_}
 use Prim.Native.Nat.{ℕ, zero, suc, _*_, _<_}
 use lib.Dec.{eqb, ltb}
 use lib.ListN.{length, getD}
 use Rattle.pauli.specs.declared.Pauli.{Pauli}
+use Rattle.pauli.specs.Lists.{allOf}
 use Rattle.pauli.specs.Masks.{bits}
 use Rattle.pauli.specs.Product.{identity, product, sameMasks}
 use Rattle.sheet.specs.declared.Code.{Code}
-use Rattle.sheet.specs.declared.Refusal.{Refusal}
 use Rattle.sheet.specs.declared.Written.{Written}
-use Rattle.sheet.specs.Record.{generators, withinLimits}
-use Rattle.sheet.specs.Text.{After, untouched, written}
+use Rattle.sheet.specs.Record.{generators, isRow, limitsFault}
+use Rattle.sheet.specs.Refusals.{_then_}
+use Rattle.sheet.specs.Text.{After, writtenUnless}
 use Rattle.sheet.specs.Writer.{rowLines}
-use Rattle.stabilizer.specs.Group.{InSignedGroup}
+use Rattle.stabilizer.specs.Group.{InGroup}
 use Rattle.stabilizer.specs.Checks.{generatorFault}
 
 -- A row read as bits a1..an, b1..bn; a column counts from 0.
@@ -33,53 +33,50 @@ firstOne [] = zero
 firstOne (zero ∷ bs) = suc (firstOne bs)
 firstOne (suc b ∷ bs) = zero
 
--- The column of a row's first one; 2n where it has none.
-unfoldable pub lead : ℕ → Pauli → ℕ
-lead n P = firstOne (columns n P)
+-- The column of a row's first one, its pivot; 2n where it has none.
+unfoldable pub pivot : ℕ → Pauli → ℕ
+pivot n P = firstOne (columns n P)
 
 -- ---- what canonical generators are
 
 pub record ReducedEchelon (n : ℕ) (rows : List Pauli) : Type 0 where
-  pub hasOne : (i : ℕ) → i < length rows → lead n (getD rows i identity) < 2 * n
+  pub hasOne : (i : ℕ) → i < length rows → pivot n (getD rows i identity) < 2 * n
   pub alone : (i j : ℕ) → i < length rows → j < length rows → i ≢ j
-      → column n (getD rows j identity) (lead n (getD rows i identity)) ≡ 0
-  pub rise : (i j : ℕ) → i < j → j < length rows → lead n (getD rows i identity) < lead n (getD rows j identity)
+      → column n (getD rows j identity) (pivot n (getD rows i identity)) ≡ 0
+  pub rise : (i j : ℕ) → i < j → j < length rows → pivot n (getD rows i identity) < pivot n (getD rows j identity)
 
 pub record IsCanonical (n : ℕ) (rows canonical : List Pauli) : Type 0 where
-  pub sameGroup : (P : Pauli) → InSignedGroup rows P ↔ InSignedGroup canonical P
+  pub sameGroup : (P : Pauli) → InGroup rows P ↔ InGroup canonical P
+  pub signed : allOf (isRow n) canonical ≡ true
   pub echelon : ReducedEchelon n canonical
 
 -- ---- the same as a function: rows are added one by one to a reduced list
 
 -- A row with its one in the column of h's first one taken away, by the product rule.
 unfoldable pub cleared : ℕ → Pauli → Pauli → Pauli
-cleared n h P = cond (eqb (column n P (lead n h)) 1) (product P h) P
+cleared n h P = cond (eqb (column n P (pivot n h)) 1) (product P h) P
 
 unfoldable pub reduced : ℕ → List Pauli → Pauli → Pauli
 reduced n hs P = foldl (λ Q h. cleared n h Q) P hs
 
-unfoldable pub insertByLead : ℕ → Pauli → List Pauli → List Pauli
-insertByLead n Q [] = Q ∷ []
-insertByLead n Q (h ∷ hs) =
-    elim (ltb (lead n Q) (lead n h)) [ true ↦ Q ∷ h ∷ hs | false ↦ h ∷ insertByLead n Q hs ]
+unfoldable pub insertByPivot : ℕ → Pauli → List Pauli → List Pauli
+insertByPivot n Q [] = Q ∷ []
+insertByPivot n Q (h ∷ hs) =
+    elim (ltb (pivot n Q) (pivot n h)) [ true ↦ Q ∷ h ∷ hs | false ↦ h ∷ insertByPivot n Q hs ]
 
 -- One row more; a row that reduces to I, phase aside, adds nothing.
 unfoldable pub added : ℕ → List Pauli → Pauli → List Pauli
 added n hs P =
-    let Q = reduced n hs P in cond (sameMasks Q identity) hs (insertByLead n Q (map (cleared n Q) hs))
+    let Q = reduced n hs P in cond (sameMasks Q identity) hs (insertByPivot n Q (map (cleared n Q) hs))
 
-unfoldable pub canonicalRows : ℕ → List Pauli → List Pauli
-canonicalRows n rows = foldl (added n) [] rows
+unfoldable pub canonicalGenerators : ℕ → List Pauli → List Pauli
+canonicalGenerators n rows = foldl (added n) [] rows
 
 -- ---- the call
 
 unfoldable pub canonicalText : Code → List ℕ
-canonicalText c = rowLines "h=" (c .n) (canonicalRows (c .n) (generators c))
+canonicalText c = rowLines "h=" (c .n) (canonicalGenerators (c .n) (generators c))
 
 -- 01: "A call on a record gives them as their `h=` lines; checks 6 to 8 run between 15 and 17, lines as in its written sheet."
 unfoldable pub writeCanonical : Code → List ℕ → After Written
-writeCanonical c buffer =
-    cond (withinLimits c)
-    (elim (generatorFault (generators c))
-    [ some refusal ↦ untouched (Written.Refused refusal) buffer | none ↦ written (canonicalText c) buffer ])
-    (untouched (Written.Refused Refusal.RecordLimits) buffer)
+writeCanonical c buffer = writtenUnless (limitsFault c then generatorFault (generators c)) (canonicalText c) buffer

@@ -1,7 +1,6 @@
 -- The checks of the generators: 6, then 7 and 8 together.
-use mathlib.Core.Bool.{Bool, cond}
 use mathlib.Core.List.{List, [], _∷_, _++_, map}
-use mathlib.Core.Option.{Option, none, some}
+use mathlib.Core.Option.{Option, none}
 use Prim.Native.Nat.{ℕ, _+_}
 use Rattle.pauli.specs.declared.Pauli.{Pauli}
 use Rattle.pauli.specs.Lists.{anyOf}
@@ -9,23 +8,14 @@ use Rattle.pauli.specs.Product.{identity, product, anticommutes, samePauli}
 use Rattle.sheet.specs.declared.Family.{Family}
 use Rattle.sheet.specs.declared.Refusal.{Refusal}
 use Rattle.sheet.specs.Record.{generatorLine}
+use Rattle.sheet.specs.Refusals.{_then_, refuseIf}
 use Rattle.stabilizer.specs.Group.{group}
-
--- 01: "The first fault met is the answer."
-infixr 20 _then_
-unfoldable pub _then_ : Option Refusal → Option Refusal → Option Refusal
-none then next = next
-(some refusal) then next = some refusal
 
 -- A check over all its rows, in order, from the line `at` on. It sees the rows before each row, that row's line, and the row.
 unfoldable pub firstFault : (List Pauli → ℕ → Pauli → Option Refusal) → List Pauli → ℕ → List Pauli → Option Refusal
 firstFault check before at [] = none
 firstFault check before at (P ∷ rows) =
     let later = firstFault check (before ++ P ∷ []) (at + 1) rows in check before at P then later
-
--- The refusal where the test holds.
-unfoldable pub refuseIf : Bool → Refusal → Option Refusal
-refuseIf test refusal = cond test (some refusal) none
 
 -- -I
 unfoldable pub minusIdentity : Pauli
@@ -42,6 +32,6 @@ dependence before at P =
     refuseIf (anyOf (samePauli minusIdentity) products) (Refusal.MinusIdentity at Family.Generator)
     then refuseIf (anyOf (samePauli identity) products) (Refusal.DependentGenerator at Family.Generator)
 
--- 01: "6 to 14 run in table order, each over all its rows, 7 and 8 together as one check."
+-- 01: "6 to 14 run in table order, each over all its rows, 7 and 8 together as one check; .."
 unfoldable pub generatorFault : List Pauli → Option Refusal
 generatorFault rows = firstFault clash [] generatorLine rows then firstFault dependence [] generatorLine rows
