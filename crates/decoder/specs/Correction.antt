@@ -1,4 +1,4 @@
--- Corrections.
+-- Corrections and the decode call.
 use mathlib.Core.Bool.{Bool, cond}
 use mathlib.Core.List.{List, map}
 use mathlib.Core.Option.{Option, none, some}

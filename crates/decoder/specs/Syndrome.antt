@@ -1,4 +1,4 @@
--- Syndromes.
+-- Syndromes: bits, characters, and the syndrome call.
 use mathlib.Core.Bool.{Bool, true, false, cond, _&&_, Bool·beq}
 use mathlib.Core.List.{List, [], _∷_, map}
 use mathlib.Core.Option.{Option, none, some}

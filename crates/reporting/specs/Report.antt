@@ -70,7 +70,7 @@ reportText s =
       | got c rest ↦ elim (codeFault c) [ some refusal ↦ refusalText refusal | none ↦ syndromesText c rest ]
     ]
 
--- 01: "A report .. return[s] the count of bytes written", and "a report writes refusals 1 to 14 and 16 as text; where that text is
--- longer than the buffer, 17 is the answer and nothing is written."
+-- 01: "a report writes refusals 1 to 14 and 16 as text; where that text is longer than the buffer, 17 is the answer and nothing is
+-- written."
 unfoldable pub writeReport : List ℕ → List ℕ → After Written
 writeReport s buffer = written (reportText s) buffer

@@ -21,7 +21,7 @@ use Rattle.sheet.specs.Opened.{opened}
 use Rattle.sheet.specs.Reader.{Parsed, got, stop, readForm, linesReading, formReading}
 use Rattle.sheet.specs.Record.{codeOf, emptyCode, filled, between, withinLimits, logicalCount, radius, claimedLine}
 use Rattle.sheet.specs.Refusals.{values}
-use Rattle.sheet.specs.Text.{lineFeed, untouched}
+use Rattle.sheet.specs.Text.{decimal, lineFeed, untouched}
 use Rattle.sheet.specs.Statements.{Sized}
 use Rattle.sheet.specs.Writer.{sheetText, writeSheet}
 
@@ -49,6 +49,12 @@ lines-named :
     ≡ 0 ∷ 8 ∷ 8 ∷ 8 ∷ 8 ∷ 8 ∷ 8 ∷ 8 ∷ 8 ∷ 8 ∷ 8 ∷ 8 ∷ 8 ∷ 8 ∷ 0 ∷ 8 ∷ 0 ∷ []
 unfolding cases opened
 lines-named = refl
+
+-- ---- numbers in texts
+
+decimals : map decimal (0 ∷ 9 ∷ 10 ∷ 11 ∷ 100 ∷ 1024 ∷ []) ≡ bytes "0" ∷ bytes "9" ∷ bytes "10" ∷ bytes "11" ∷ bytes "100" ∷ bytes "1024" ∷ []
+unfolding opened
+decimals = refl
 
 -- ---- refusals of the form
 
@@ -172,6 +178,10 @@ numbers-24 : (logicalCount code24 ≡ 23) × (radius code24 ≡ 3) × (claimedLi
 unfolding code24 opened
 numbers-24 = (refl, refl, refl)
 
+empty-numbers : (emptyCode .n ≡ 0) × (emptyCode .r ≡ 0) × (emptyCode .d ≡ 0)
+unfolding opened
+empty-numbers = (refl, refl, refl)
+
 -- The arrays have their room, in a record that was read and in the empty one.
 rooms : Sized codeA × Sized emptyCode
 unfolding codeA opened
@@ -201,6 +211,11 @@ turned = record { p = 1; a = 3; b = 0 }
 -- The record of K, with some of its values changed.
 codeK : (n d : ℕ) → (g x z w : Pauli) → Code
 codeK n d g x z w = codeOf n d (g ∷ []) (x ∷ []) (z ∷ []) w
+
+-- t, for each d
+radii : map (λ d. radius (codeK 2 d zz xx zi zi)) (1 ∷ 2 ∷ 3 ∷ 4 ∷ 5 ∷ 6 ∷ 7 ∷ []) ≡ 0 ∷ 0 ∷ 1 ∷ 1 ∷ 2 ∷ 2 ∷ 3 ∷ []
+unfolding codeK opened
+radii = refl
 
 inside : List Code
 inside =

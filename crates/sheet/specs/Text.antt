@@ -20,13 +20,13 @@ unfoldable pub line : String → List ℕ → List ℕ
 line key value = bytes key ++ value ++ lineFeed ∷ []
 
 -- 01: "numbers are in base ten", "with no leading zeros". The first argument bounds how many digits there are.
-unfoldable pub digits : ℕ → ℕ → List ℕ
-digits zero m = []
-digits (suc k) m =
-    elim (ltb m 10) [ true ↦ (code "0" + m) ∷ [] | false ↦ digits k (m / 10) ++ (code "0" + m % 10) ∷ [] ]
+unfoldable pub digitsOf : ℕ → ℕ → List ℕ
+digitsOf zero m = []
+digitsOf (suc k) m =
+    elim (ltb m 10) [ true ↦ (code "0" + m) ∷ [] | false ↦ digitsOf k (m / 10) ++ (code "0" + m % 10) ∷ [] ]
 
 unfoldable pub decimal : ℕ → List ℕ
-decimal m = digits (suc m) m
+decimal m = digitsOf (suc m) m
 
 -- The answer of a call that is lent an output buffer, and what the buffer holds afterwards.
 pub record After (A : Type 0) : Type 0 where

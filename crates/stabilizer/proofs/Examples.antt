@@ -114,6 +114,13 @@ written-six : writeCanonical (record2 ("-ZZ" ∷ [])) (bytes "abcdefgh") ≡ rec
 unfolding record2 opened
 written-six = refl
 
+-- three qubits, two generators
+written-rows :
+    writeCanonical (codeOf 3 1 (rows ("+XIX" ∷ "+IIX" ∷ [])) (rows ("+IXI" ∷ [])) (rows ("+IZI" ∷ [])) (ofLetters (I ∷ Z ∷ I ∷ []))) (bytes "abcdefghijklmn")
+    ≡ record { answer = Written.Count 14; buffer = bytes "h=+XII\nh=+IIX\n" }
+unfolding rows opened
+written-rows = refl
+
 -- 17, 7 and 15 write nothing, 7 before 17 and 15 before 7
 short : writeCanonical (record2 ("-ZZ" ∷ [])) (bytes "abcde") ≡ untouched (Written.Refused Refusal.ShortBuffer) (bytes "abcde")
 unfolding record2 opened
