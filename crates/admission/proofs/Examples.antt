@@ -39,6 +39,13 @@ refused-record : readSheet (bytes sheetC) .code ≡ emptyCode
 unfolding opened
 refused-record = refl
 
+-- The heaviest error that refutes a distance d has weight d - 1; of one letter, F has none.
+refuted-by-one-letter :
+    readSheet (bytes "n=2\nd=2\ng=+ZZ\nx=+XX\nz=+ZI\nw=XX\n") .answer
+    ≡ Admission.Refused (Refusal.DistanceRefuted 6 (record { n = 2; e = ofLetters (I ∷ Z ∷ []); f = ofLetters (I ∷ I ∷ []) }))
+unfolding opened
+refuted-by-one-letter = refl
+
 -- Six letters other than I: the first three are E, and the others F. Of five, three are E.
 split-errors :
     refutingPair 7 (X ∷ I ∷ Z ∷ Y ∷ Z ∷ X ∷ Y ∷ [])

@@ -3,15 +3,24 @@ use mathlib.Core.Path.{_≡_, refl}
 use mathlib.Core.Bool.{true, false}
 use mathlib.Core.List.{List, [], _∷_, map}
 use mathlib.Core.Logic.{inl, inr}
-use lib.Dec.{lit<}
+use mathlib.Core.Option.{none, some}
+use lib.Dec.{lit<, leb}
 use lib.ListN.{length, replicate}
 use Prim.Native.Nat.{_^_, _-_}
-use Rattle.pauli.specs.Letters.{Letter, I, X, Y, Z, plus, minus, signedRow, ofLetters, lettersOf, isSignedRow, rowText}
-use Rattle.pauli.specs.Lists.{bytes}
+use Rattle.pauli.specs.Letters.{Letter, I, X, Y, Z, plus, minus, signedRow, ofLetters, lettersOf, isSignedRow, readLetter, readSign, rowText}
+use Rattle.pauli.specs.Lists.{firstOf, anyOf, allOf, bytes}
 use Rattle.pauli.specs.Masks.{bits}
 use Rattle.pauli.specs.Opened.{opened}
 use Rattle.pauli.specs.Order.{Earlier, SmallerLetter, rank, strings, stringsUpTo, weightOf}
-use Rattle.pauli.specs.Product.{identity, product, commutes, weight, sameMasks, samePauli}
+use Rattle.pauli.specs.Product.{identity, product, commutes, anticommutes, weight, sameMasks, samePauli}
+
+-- ---- searches through a list
+
+searches :
+    (firstOf (λ m. leb 2 m) (1 ∷ 3 ∷ 2 ∷ []) ≡ some 3) × (anyOf (λ m. leb 3 m) (1 ∷ 3 ∷ 2 ∷ []) ≡ true)
+    × (allOf (λ m. leb m 2) (1 ∷ 2 ∷ 3 ∷ []) ≡ false)
+unfolding opened
+searches = (refl, refl, refl)
 
 -- ---- products and commutation
 
@@ -39,17 +48,12 @@ xx-zz : product (ofLetters (X ∷ X ∷ [])) (ofLetters (Z ∷ Z ∷ [])) ≡ si
 unfolding opened
 xx-zz = refl
 
-x-and-z-anticommute : commutes (ofLetters (X ∷ [])) (ofLetters (Z ∷ [])) ≡ false
+-- X and Z anticommute, whichever comes first; XX and ZZ commute.
+commutation :
+    (anticommutes (ofLetters (X ∷ [])) (ofLetters (Z ∷ [])) ≡ true) × (anticommutes (ofLetters (Z ∷ [])) (ofLetters (X ∷ [])) ≡ true)
+    × (commutes (ofLetters (X ∷ X ∷ [])) (ofLetters (Z ∷ Z ∷ [])) ≡ true)
 unfolding opened
-x-and-z-anticommute = refl
-
-z-and-x-anticommute : commutes (ofLetters (Z ∷ [])) (ofLetters (X ∷ [])) ≡ false
-unfolding opened
-z-and-x-anticommute = refl
-
-xx-and-zz-commute : commutes (ofLetters (X ∷ X ∷ [])) (ofLetters (Z ∷ Z ∷ [])) ≡ true
-unfolding opened
-xx-and-zz-commute = refl
+commutation = (refl, refl, refl)
 
 -- ---- letters, masks and phases
 
@@ -68,6 +72,12 @@ bits-lowest-first = refl
 texts : (rowText 4 (signedRow minus ixyz) ≡ bytes "-IXYZ") × (rowText 4 (signedRow plus ixyz) ≡ bytes "+IXYZ")
 unfolding ixyz opened
 texts = (refl, refl)
+
+bytes-read :
+    (map readLetter (bytes "IXYZx.") ≡ some I ∷ some X ∷ some Y ∷ some Z ∷ none ∷ none ∷ [])
+    × (map readSign (bytes "+- ") ≡ some plus ∷ some minus ∷ none ∷ [])
+unfolding opened
+bytes-read = (refl, refl)
 
 -- a Y counts as one
 weights : (weight (ofLetters ixyz) ≡ 3) × (weightOf ixyz ≡ 3)
@@ -98,6 +108,10 @@ unfolding opened
 phases-compared = refl
 
 -- ---- the order
+
+ranks : map rank ixyz ≡ 0 ∷ 1 ∷ 2 ∷ 3 ∷ []
+unfolding ixyz opened
+ranks = refl
 
 -- Y is smaller than Z, and a smaller weight comes first
 y-before-z : Earlier (I ∷ Y ∷ []) (I ∷ Z ∷ [])
