@@ -6,7 +6,7 @@ use Prim.Native.Nat.{ℕ}
 use Rattle.sheet.specs.declared.Code.{Code}
 use Rattle.sheet.specs.declared.Refusal.{Refusal}
 use Rattle.sheet.specs.Record.{generators, emptyCode}
-use Rattle.sheet.specs.Reader.{got, stop, readForm}
+use Rattle.sheet.specs.Reader.{Parsed, got, stop, readForm}
 use Rattle.sheet.specs.Refusals.{_then_}
 use Rattle.stabilizer.specs.Checks.{generatorFault}
 use Rattle.admission.specs.declared.Admission.{Admission}
@@ -34,13 +34,18 @@ unfoldable pub admissionRefusal : Admission → Option Refusal
 admissionRefusal Admission.Admitted = none
 admissionRefusal (Admission.Refused refusal) = some refusal
 
+-- The reading of a sheet whose lines were read, by its first fault, and of a sheet by its lines.
+unfoldable pub readingOf : Code → Option Refusal → Reading
+readingOf c none = admitted c
+readingOf c (some refusal) = refusedReading refusal
+
+unfoldable pub checked : Parsed Code → Reading
+checked (got c rest) = readingOf c (codeFault c)
+checked (stop refusal) = refusedReading refusal
+
 -- A sheet read by itself.
 unfoldable pub readSheet : List ℕ → Reading
-readSheet s =
-    elim (readForm s) [
-      | stop refusal ↦ refusedReading refusal
-      | got c rest ↦ elim (codeFault c) [ some refusal ↦ refusedReading refusal | none ↦ admitted c ]
-    ]
+readSheet s = checked (readForm s)
 
 -- 01's "lawful in all else": "read by itself, no check other than 14 faults it". c is the record that it is read to.
 pub record AdmissibleButForDistance (s : List ℕ) (c : Code) : Type 0 where

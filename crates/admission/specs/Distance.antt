@@ -1,7 +1,7 @@
 -- The checks of w, 11 to 13, and the distance, 14.
 use mathlib.Core.Bool.{Bool, true, not, _&&_}
 use mathlib.Core.List.{List, [], _∷_}
-use mathlib.Core.Option.{Option, none, some}
+use mathlib.Core.Option.{Option, Option·map}
 use mathlib.Core.Path.{_≡_}
 use Prim.Native.Nat.{ℕ, zero, suc, _+_, _-_, _/_, _≤_}
 use lib.Dec.{eqb}
@@ -71,5 +71,4 @@ refutingPair n s =
 -- 14: "a logical error of weight below d exists"
 unfoldable pub distanceFault : Code → Option Refusal
 distanceFault c =
-    elim (logicalErrorUpTo c (c .d - 1))
-    [ some s ↦ some (Refusal.DistanceRefuted (claimedLine c) (refutingPair (c .n) s)) | none ↦ none ]
+    Option·map (λ s. Refusal.DistanceRefuted (claimedLine c) (refutingPair (c .n) s)) (logicalErrorUpTo c (c .d - 1))

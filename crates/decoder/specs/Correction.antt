@@ -24,24 +24,23 @@ correction c bits = firstOf (hasSyndrome c bits) (stringsUpTo (c .n) (radius c))
 
 -- 01: "If there is none the answer is `none` and the buffer is untouched; otherwise its first n bytes are the letters and the rest
 -- stays."
-unfoldable pub corrected : Code → List Bool → List ℕ → After Decoded
-corrected c bits buffer =
-    elim (correction c bits) [
-      | some s ↦ record { answer = Decoded.Correction; buffer = laid (map letterByte s) buffer }
-      | none ↦ untouched Decoded.None buffer
-    ]
+unfoldable pub corrected : Option (List Letter) → List ℕ → After Decoded
+corrected none buffer = untouched Decoded.None buffer
+corrected (some s) buffer = record { answer = Decoded.Correction; buffer = laid (map letterByte s) buffer }
 
--- The decode call: 15, then 16 with line 0, then 17. 01: "For 17 a decode's answer counts as n bytes, even where it would be `none`."
+-- The call once the record is within limits: 16 with line 0 where no syndrome was read, then 17. 01: "For 17 a decode's answer counts as n
+-- bytes, even where it would be `none`."
+unfoldable pub decodeRead : Code → Option (List Bool) → List ℕ → After Decoded
+decodeRead c none buffer = untouched (Decoded.Refused (Refusal.Syndrome 0)) buffer
+decodeRead c (some bits) buffer =
+    cond (leb (c .n) (length buffer)) (corrected (correction c bits) buffer)
+    (untouched (Decoded.Refused Refusal.ShortBuffer) buffer)
+
+-- The decode call: 15, then 16, then 17.
 unfoldable pub decode : Code → List ℕ → List ℕ → After Decoded
 decode c characters buffer =
     cond (withinLimits c)
-    (elim (readSyndrome (c .r) characters) [
-      | none ↦ untouched (Decoded.Refused (Refusal.Syndrome 0)) buffer
-      | some bits ↦
-          cond (leb (c .n) (length buffer)) (corrected c bits buffer)
-          (untouched (Decoded.Refused Refusal.ShortBuffer) buffer)
-    ])
-    (untouched (Decoded.Refused Refusal.RecordLimits) buffer)
+    (decodeRead c (readSyndrome (c .r) characters) buffer) (untouched (Decoded.Refused Refusal.RecordLimits) buffer)
 
 -- The refusal that an answer carries, where it is one.
 unfoldable pub decodedRefusal : Decoded → Option Refusal

@@ -13,7 +13,7 @@ use Rattle.sheet.specs.declared.Written.{Written}
 use Rattle.sheet.specs.Refusals.{values}
 use Rattle.sheet.specs.Record.{logicalCount, radius, claimedLine}
 use Rattle.sheet.specs.Text.{line, decimal, After, written}
-use Rattle.sheet.specs.Reader.{Reader, got, stop, done, _>>=_, readLine, readLines}
+use Rattle.sheet.specs.Reader.{Reader, Parsed, got, stop, done, _>>=_, readLine, readLines}
 use Rattle.stabilizer.specs.Canonical.{canonicalText}
 use Rattle.admission.specs.Admission.{codeFault}
 use Rattle.decoder.specs.Syndrome.{readSyndrome}
@@ -57,18 +57,22 @@ codeText c =
     line "n=" (decimal (c .n)) ++ line "k=" (decimal (logicalCount c)) ++ line "d=" (decimal (c .d))
     ++ line "t=" (decimal (radius c)) ++ canonicalText c
 
-unfoldable pub syndromesText : Code → List ℕ → List ℕ
-syndromesText c rest =
-    elim (syndromeLines (length rest) c (claimedLine c + 1) rest)
-    [ stop refusal ↦ refusalText refusal | got all end ↦ codeText c ++ flatMap (correctionLine c) all ]
+unfoldable pub answersText : Code → Parsed (List (List Bool)) → List ℕ
+answersText c (got syndromes end) = codeText c ++ flatMap (correctionLine c) syndromes
+answersText c (stop refusal) = refusalText refusal
+
+-- A report of the code c with these bytes behind w, by c's first fault.
+unfoldable pub checkedText : Code → List ℕ → Option Refusal → List ℕ
+checkedText c rest none = answersText c (syndromeLines (length rest) c (claimedLine c + 1) rest)
+checkedText c rest (some refusal) = refusalText refusal
+
+unfoldable pub linesText : Parsed Code → List ℕ
+linesText (got c rest) = checkedText c rest (codeFault c)
+linesText (stop refusal) = refusalText refusal
 
 -- 01: "Reports read a sheet and then any number of `s=` lines": the lines of the sheet, 6 to 14, "then, in a report, 16 line by line".
 unfoldable pub reportText : List ℕ → List ℕ
-reportText s =
-    elim (readLines s) [
-      | stop refusal ↦ refusalText refusal
-      | got c rest ↦ elim (codeFault c) [ some refusal ↦ refusalText refusal | none ↦ syndromesText c rest ]
-    ]
+reportText s = linesText (readLines s)
 
 -- 01: "a report writes refusals 1 to 14 and 16 as text; where that text is longer than the buffer, 17 is the answer and nothing is
 -- written."

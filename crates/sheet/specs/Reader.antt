@@ -49,13 +49,17 @@ unfoldable pub readEach : {A : Type 0} → (ℕ → Option A) → List ℕ → O
 readEach read [] = some []
 readEach read (c ∷ cs) = bind (read c) (λ a. Option·map (λ rest. a ∷ rest) (readEach read cs))
 
+-- A value and the rest of the bytes, or the refusal where there is no value.
+unfoldable pub gotOr : {A : Type 0} → Refusal → Option A → List ℕ → Parsed A
+gotOr refusal none rest = stop refusal
+gotOr refusal (some a) rest = got a rest
+
 -- A line: the key, m bytes that are a value, a line feed.
 unfoldable pub readLine : {A : Type 0} → String → ℕ → (List ℕ → Option A) → Refusal → Reader A
 readLine key m read refusal s =
     let value = drop (length (bytes key)) s in
     cond (begins (bytes key) s && eqb (getD value m 0) lineFeed)
-    (elim (read (take m value)) [ some a ↦ got a (drop (m + 1) value) | none ↦ stop refusal ])
-    (stop refusal)
+    (gotOr refusal (read (take m value)) (drop (m + 1) value)) (stop refusal)
 
 unfoldable pub readDigit : ℕ → Option ℕ
 readDigit c = cond (between (code "0") (code "9") c) (some (c - code "0")) none

@@ -53,9 +53,8 @@ pub record LongestSheet : Type 0 where
   pub reached : (s : List ℕ) × (c : Code) × (readForm s ≡ got c []) × (c .n ≡ 24) × (c .r ≡ 1) × (length s ≡ 1352)
 
 -- 01: "Every refusal leaves them untouched": where the answer of a call carries a refusal, the buffer is what it was.
-abbrev pub RefusalLeaves : {A : Type 0} → (A → Option Refusal) → List ℕ → After A → Type 0
-RefusalLeaves refusalOf buffer after =
-    (refusal : Refusal) → refusalOf (after .answer) ≡ some refusal → after .buffer ≡ buffer
+pub record RefusalLeaves {A : Type 0} (refusalOf : A → Option Refusal) (buffer : List ℕ) (after : After A) : Type 0 where
+  pub unchanged : (refusal : Refusal) → refusalOf (after .answer) ≡ some refusal → after .buffer ≡ buffer
 
 abbrev pub WriterRefusalsLeave : Type 0
 WriterRefusalsLeave = (c : Code) (buffer : List ℕ) → RefusalLeaves writtenRefusal buffer (writeSheet c buffer)
