@@ -13,22 +13,22 @@ use Rattle.pauli.specs.Order.{letterWeight, weightOf, stringsUpTo}
 use Rattle.sheet.specs.declared.Code.{Code}
 use Rattle.sheet.specs.declared.ErrorPair.{ErrorPair}
 use Rattle.sheet.specs.declared.Refusal.{Refusal}
-use Rattle.sheet.specs.Record.{generators, claimedLine, onQubits}
+use Rattle.sheet.specs.Record.{generators, claimAt, onQubits}
 use Rattle.sheet.specs.Refusals.{refuseIf}
 use Rattle.stabilizer.specs.Group.{InGroupUpToPhase, inGroupUpToPhase}
 
 -- 11: "weight not d"
 unfoldable pub claimedWeightFault : Code → Option Refusal
-claimedWeightFault c = refuseIf (not (eqb (weight (c .w)) (c .d))) (Refusal.ClaimedWeight (claimedLine c))
+claimedWeightFault c = refuseIf (not (eqb (weight (c .w)) (c .d))) (Refusal.ClaimedWeight (claimAt c))
 
 -- 12: "anticommutes with a g row"
 unfoldable pub claimedDetectedFault : Code → Option Refusal
 claimedDetectedFault c =
-    refuseIf (anyOf (anticommutes (c .w)) (generators c)) (Refusal.ClaimedAnticommutes (claimedLine c))
+    refuseIf (anyOf (anticommutes (c .w)) (generators c)) (Refusal.ClaimedAnticommutes (claimAt c))
 
 -- 13: "in the group, phase aside"
 unfoldable pub claimedInGroupFault : Code → Option Refusal
-claimedInGroupFault c = refuseIf (inGroupUpToPhase (generators c) (c .w)) (Refusal.ClaimedInGroup (claimedLine c))
+claimedInGroupFault c = refuseIf (inGroupUpToPhase (generators c) (c .w)) (Refusal.ClaimedInGroup (claimAt c))
 
 -- 01: "a logical error is a Pauli that commutes with every g row and is not, phase aside, in the group".
 unfoldable pub isLogicalError : List Pauli → Pauli → Bool
@@ -71,4 +71,4 @@ refutingPair n s =
 -- 14: "a logical error of weight below d exists"
 unfoldable pub distanceFault : Code → Option Refusal
 distanceFault c =
-    Option·map (λ s. Refusal.DistanceRefuted (claimedLine c) (refutingPair (c .n) s)) (logicalErrorUpTo c (c .d - 1))
+    Option·map (λ s. Refusal.DistanceRefuted (claimAt c) (refutingPair (c .n) s)) (logicalErrorUpTo c (c .d - 1))

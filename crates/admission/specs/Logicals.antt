@@ -11,7 +11,7 @@ use Rattle.pauli.specs.Product.{commutes, anticommutes}
 use Rattle.sheet.specs.declared.Code.{Code}
 use Rattle.sheet.specs.declared.Family.{Family}
 use Rattle.sheet.specs.declared.Refusal.{Refusal}
-use Rattle.sheet.specs.Record.{generators, logicalCount, logicalXs, logicalZs, logicalLine}
+use Rattle.sheet.specs.Record.{generators, logicalCount, logicalXs, logicalZs, logicalsAt}
 use Rattle.sheet.specs.Refusals.{refuseIf}
 use Rattle.stabilizer.specs.Checks.{firstFault}
 
@@ -41,7 +41,7 @@ mispaired c before at P =
     (Refusal.LogicalPairing at (familyAfter (logicalCount c) before))
 
 unfoldable pub detectedFault : Code → Option Refusal
-detectedFault c = firstFault (detected c) [] (logicalLine c) (logicals c)
+detectedFault c = firstFault (detected c) [] (logicalsAt c) (logicals c)
 
 unfoldable pub pairingFault : Code → Option Refusal
-pairingFault c = firstFault (mispaired c) [] (logicalLine c) (logicals c)
+pairingFault c = firstFault (mispaired c) [] (logicalsAt c) (logicals c)

@@ -1,6 +1,6 @@
 -- What is stated of admitted sheets and of the search for logical errors.
 use mathlib.Core.Bool.{true}
-use mathlib.Core.List.{List}
+use mathlib.Core.List.{List, [], _∷_}
 use mathlib.Core.Logic.{_⊎_}
 use mathlib.Core.Option.{none, some}
 use mathlib.Core.Path.{_≡_}
@@ -9,11 +9,12 @@ use lib.ListN.{length}
 use Rattle.pauli.specs.Letters.{Letter, ofLetters}
 use Rattle.pauli.specs.Order.{weightOf, Earlier}
 use Rattle.sheet.specs.declared.Code.{Code}
+use Rattle.sheet.specs.declared.Refusal.{Refusal}
 use Rattle.sheet.specs.Record.{withinLimits}
-use Rattle.sheet.specs.Statements.{Sized, phasesModulo4}
+use Rattle.sheet.specs.Statements.{Among, Sized, phasesModulo4}
 use Rattle.sheet.specs.Writer.{sheetText}
 use Rattle.admission.specs.declared.Admission.{Admission}
-use Rattle.admission.specs.Admission.{codeFault, admitted, readSheet}
+use Rattle.admission.specs.Admission.{admissionRefusal, codeFault, admitted, readSheet}
 use Rattle.admission.specs.Distance.{LogicalError, IsDistance, logicalErrorUpTo}
 
 -- ---- demand 2: "An admitted sheet read and then written is the same bytes; an admitted code written and then read is the same code."
@@ -43,3 +44,10 @@ pub record LogicalErrorIsEarliest : Type 0 where
 abbrev pub AdmittedDistanceIsTrue : Type 0
 AdmittedDistanceIsTrue =
     (s : List ℕ) → readSheet s .answer ≡ Admission.Admitted → IsDistance (readSheet s .code) (readSheet s .code .d)
+
+-- ---- the numbers with which a sheet is refused
+
+abbrev pub AdmissionRefusalNumbers : Type 0
+AdmissionRefusalNumbers =
+    (s : List ℕ) (refusal : Refusal) → admissionRefusal (readSheet s .answer) ≡ some refusal
+    → Among (1 ∷ 2 ∷ 3 ∷ 4 ∷ 5 ∷ 6 ∷ 7 ∷ 8 ∷ 9 ∷ 10 ∷ 11 ∷ 12 ∷ 13 ∷ 14 ∷ []) refusal

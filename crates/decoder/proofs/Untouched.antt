@@ -10,16 +10,15 @@ use Rattle.pauli.specs.Letters.{Letter}
 use Rattle.sheet.specs.declared.Code.{Code}
 use Rattle.sheet.specs.declared.Refusal.{Refusal}
 use Rattle.sheet.specs.Statements.{RefusalLeaves}
-use Rattle.sheet.proofs.Untouched.{cond-leaves, answer-leaves, untouched-leaves}
+use Rattle.sheet.proofs.Untouched.{answer-leaves, untouched-leaves, guarded-leaves}
 use Rattle.decoder.specs.declared.Decoded.{Decoded}
-use Rattle.decoder.specs.Correction.{corrected, decodeRead, decode, decodedRefusal}
+use Rattle.decoder.specs.Correction.{corrected, decode, decodedRefusal}
 use Rattle.decoder.specs.Statements.{DecoderRefusalsLeave}
 use Rattle.decoder.specs.Syndrome.{syndromeRefusal, writeSyndrome}
 
 syndrome-leaves : (c : Code) (P : Pauli) (buffer : List ℕ) → RefusalLeaves syndromeRefusal buffer (writeSyndrome c P buffer)
 unfolding writeSyndrome syndromeRefusal
-syndrome-leaves c P buffer =
-    search (cond-leaves syndromeRefusal buffer, answer-leaves syndromeRefusal buffer, untouched-leaves syndromeRefusal buffer)
+syndrome-leaves c P buffer = guarded-leaves syndromeRefusal buffer _ _ (answer-leaves syndromeRefusal buffer _ refl)
 
 -- Whichever answers but a correction are counted as refusals: they leave the buffer.
 module _ (refusalOf : Decoded → Option Refusal) (correction-is-none : refusalOf Decoded.Correction ≡ none) where
@@ -28,14 +27,9 @@ module _ (refusalOf : Decoded → Option Refusal) (correction-is-none : refusalO
   corrected-leaves none buffer = untouched-leaves refusalOf buffer Decoded.None
   corrected-leaves (some s) buffer = answer-leaves refusalOf buffer _ correction-is-none
 
-  decodeRead-leaves : (c : Code) (read : Option (List Bool)) (buffer : List ℕ) → RefusalLeaves refusalOf buffer (decodeRead c read buffer)
-  unfolding decodeRead
-  decodeRead-leaves c none buffer = untouched-leaves refusalOf buffer _
-  decodeRead-leaves c (some bits) buffer = search (cond-leaves refusalOf buffer, corrected-leaves, untouched-leaves refusalOf buffer)
-
   decode-leaves : (c : Code) (characters buffer : List ℕ) → RefusalLeaves refusalOf buffer (decode c characters buffer)
   unfolding decode
-  decode-leaves c characters buffer = search (cond-leaves refusalOf buffer, decodeRead-leaves, untouched-leaves refusalOf buffer)
+  decode-leaves c characters buffer = guarded-leaves refusalOf buffer _ _ (corrected-leaves _ buffer)
 
 -- Each answer but a correction, counted as a refusal.
 unsettled : Decoded → Option Refusal

@@ -1,19 +1,18 @@
 -- Corrections and the decode call.
-use mathlib.Core.Bool.{Bool, cond}
+use mathlib.Core.Bool.{Bool}
 use mathlib.Core.List.{List, map}
-use mathlib.Core.Option.{Option, none, some}
+use mathlib.Core.Option.{Option, none, some, bind}
 use Prim.Native.Nat.{ℕ}
-use lib.Dec.{leb}
-use lib.ListN.{length}
 use Rattle.pauli.specs.Lists.{firstOf}
 use Rattle.pauli.specs.Letters.{Letter, ofLetters, letterByte}
 use Rattle.pauli.specs.Order.{stringsUpTo}
 use Rattle.sheet.specs.declared.Code.{Code}
 use Rattle.sheet.specs.declared.Refusal.{Refusal}
-use Rattle.sheet.specs.Record.{generators, radius, withinLimits}
-use Rattle.sheet.specs.Text.{After, laid, untouched}
+use Rattle.sheet.specs.Record.{generators, radius, limitsFault}
+use Rattle.sheet.specs.Refusals.{_then_}
+use Rattle.sheet.specs.Text.{After, laid, untouched, guarded, roomFault}
 use Rattle.decoder.specs.declared.Decoded.{Decoded}
-use Rattle.decoder.specs.Syndrome.{syndrome, sameBits, readSyndrome}
+use Rattle.decoder.specs.Syndrome.{syndrome, sameBits, readSyndrome, syndromeFault}
 
 unfoldable pub hasSyndrome : Code → List Bool → List Letter → Bool
 hasSyndrome c bits s = sameBits (syndrome (generators c) (ofLetters s)) bits
@@ -28,19 +27,11 @@ unfoldable pub corrected : Option (List Letter) → List ℕ → After Decoded
 corrected none buffer = untouched Decoded.None buffer
 corrected (some s) buffer = record { answer = Decoded.Correction; buffer = laid (map letterByte s) buffer }
 
--- The call once the record is within limits: 16 with line 0 where no syndrome was read, then 17. 01: "For 17 a decode's answer counts as n
--- bytes, even where it would be `none`."
-unfoldable pub decodeRead : Code → Option (List Bool) → List ℕ → After Decoded
-decodeRead c none buffer = untouched (Decoded.Refused (Refusal.Syndrome 0)) buffer
-decodeRead c (some bits) buffer =
-    cond (leb (c .n) (length buffer)) (corrected (correction c bits) buffer)
-    (untouched (Decoded.Refused Refusal.ShortBuffer) buffer)
-
--- The decode call: 15, then 16, then 17.
+-- The decode call: 15, then 16, then 17. 01: "For 17 a decode's answer counts as n bytes, even where it would be `none`."
 unfoldable pub decode : Code → List ℕ → List ℕ → After Decoded
 decode c characters buffer =
-    cond (withinLimits c)
-    (decodeRead c (readSyndrome (c .r) characters) buffer) (untouched (Decoded.Refused Refusal.RecordLimits) buffer)
+    guarded Decoded.Refused (limitsFault c then syndromeFault (c .r) characters then roomFault (c .n) buffer) buffer
+    (corrected (bind (readSyndrome (c .r) characters) (correction c)) buffer)
 
 -- The refusal that an answer carries, where it is one.
 unfoldable pub decodedRefusal : Decoded → Option Refusal

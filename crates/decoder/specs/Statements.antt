@@ -1,6 +1,6 @@
 -- What is stated of the decoder, and of admission and decoder together: demand 3.
 use mathlib.Core.Bool.{Bool, true}
-use mathlib.Core.List.{List, map}
+use mathlib.Core.List.{List, [], _∷_, map}
 use mathlib.Core.Logic.{_⊎_, _↔_}
 use mathlib.Core.Option.{none, some}
 use mathlib.Core.Path.{_≡_}
@@ -13,13 +13,13 @@ use Rattle.pauli.specs.Product.{product, weight}
 use Rattle.sheet.specs.declared.Code.{Code}
 use Rattle.sheet.specs.declared.ErrorPair.{ErrorPair}
 use Rattle.sheet.specs.declared.Refusal.{Refusal}
-use Rattle.sheet.specs.Record.{generators, radius, onQubits, claimedLine, withinLimits}
+use Rattle.sheet.specs.Record.{generators, radius, onQubits, claimAt, withinLimits}
 use Rattle.sheet.specs.Refusals.{values}
-use Rattle.sheet.specs.Statements.{RefusalLeaves}
+use Rattle.sheet.specs.Statements.{RefusalLeaves, Among}
 use Rattle.sheet.specs.Text.{laid, untouched}
 use Rattle.stabilizer.specs.Group.{InGroupUpToPhase}
 use Rattle.admission.specs.declared.Admission.{Admission}
-use Rattle.admission.specs.Admission.{AdmissibleButForDistance, refusedReading, admitted, readSheet}
+use Rattle.admission.specs.Admission.{AdmissibleButForDistance, admissionRefusal, admitted, readSheet}
 use Rattle.decoder.specs.declared.Decoded.{Decoded}
 use Rattle.decoder.specs.Syndrome.{syndrome, syndromeText, syndromeRefusal, writeSyndrome}
 use Rattle.decoder.specs.Correction.{correction, decode, decodedRefusal}
@@ -40,6 +40,13 @@ pub record DecoderRefusalsLeave : Type 0 where
   pub corrections : (c : Code) (characters buffer : List ℕ) → RefusalLeaves decodedRefusal buffer (decode c characters buffer)
   pub missing : (c : Code) (characters buffer : List ℕ) → decode c characters buffer .answer ≡ Decoded.None
       → decode c characters buffer .buffer ≡ buffer
+
+-- The numbers with which either call refuses.
+pub record DecoderRefusalNumbers : Type 0 where
+  pub syndromes : (c : Code) (P : Pauli) (buffer : List ℕ) (refusal : Refusal)
+      → syndromeRefusal (writeSyndrome c P buffer .answer) ≡ some refusal → Among (15 ∷ 17 ∷ []) refusal
+  pub corrections : (c : Code) (characters buffer : List ℕ) (refusal : Refusal)
+      → decodedRefusal (decode c characters buffer .answer) ≡ some refusal → Among (15 ∷ 16 ∷ 17 ∷ []) refusal
 
 -- ---- the correction is the earliest
 
@@ -64,7 +71,7 @@ pub record IsCorrected (c : Code) (E : Pauli) : Type 0 where
   pub letters : List Letter
   pub found : correction c (syndrome (generators c) E) ≡ some letters
   pub light : weightOf letters ≤ weight E
-  pub mends : InGroupUpToPhase (generators c) (product (ofLetters letters) E)
+  pub inGroup : InGroupUpToPhase (generators c) (product (ofLetters letters) E)
   pub written : (buffer : List ℕ) → c .n ≤ length buffer
       → decode c (syndromeText (syndrome (generators c) E)) buffer
       ≡ record { answer = Decoded.Correction; buffer = laid (map letterByte letters) buffer }
@@ -85,21 +92,21 @@ pub record Refutes (c : Code) (E F : Pauli) : Type 0 where
   pub errorE : onQubits (c .n) E ≡ true
   pub errorF : onQubits (c .n) F ≡ true
   pub light : weight E + weight F < c .d
-  pub alike : syndrome (generators c) E ≡ syndrome (generators c) F
-  pub harmful : InGroupUpToPhase (generators c) (product E F) → ⊥
+  pub sameSyndrome : syndrome (generators c) E ≡ syndrome (generators c) F
+  pub notInGroup : InGroupUpToPhase (generators c) (product E F) → ⊥
 
 abbrev pub Refuted : Code → Type 0
 Refuted c = (E : Pauli) × (F : Pauli) × Refutes c E F
 
 -- The sheet is refused with number 14.
 abbrev pub RefusedForDistance : List ℕ → Refusal → Type 0
-RefusedForDistance s refusal = (readSheet s ≡ refusedReading refusal) × (values refusal .number ≡ 14)
+RefusedForDistance s refusal = (admissionRefusal (readSheet s .answer) ≡ some refusal) × (values refusal .number ≡ 14)
 
 -- The two errors that the refusal carries, on the code's qubits and named at w.
 pub record Shows (c : Code) (refusal : Refusal) : Type 0 where
   pub pair : ErrorPair
   pub carried : values refusal .errors ≡ some pair
-  pub atClaim : values refusal .line ≡ claimedLine c
+  pub atClaim : values refusal .line ≡ claimAt c
   pub qubits : pair .n ≡ c .n
   pub refutes : Refutes c (pair .e) (pair .f)
 

@@ -4,16 +4,17 @@ use mathlib.Core.List.{List, [], _∷_, map}
 use mathlib.Core.Option.{Option, none, some}
 use Prim.Native.Nat.{ℕ}
 use Prim.Native.Char.{code}
-use lib.Dec.{eqb, leb}
+use lib.Dec.{eqb}
 use lib.ListN.{length}
 use Rattle.pauli.specs.declared.Pauli.{Pauli}
 use Rattle.pauli.specs.Lists.{readByte}
 use Rattle.pauli.specs.Product.{anticommutes}
 use Rattle.sheet.specs.declared.Code.{Code}
 use Rattle.sheet.specs.declared.Refusal.{Refusal}
-use Rattle.sheet.specs.Record.{generators, withinLimits}
+use Rattle.sheet.specs.Record.{generators, limitsFault}
+use Rattle.sheet.specs.Refusals.{refuseIf, _then_}
 use Rattle.sheet.specs.Reader.{readEach}
-use Rattle.sheet.specs.Text.{After, laid, untouched}
+use Rattle.sheet.specs.Text.{After, laid, guarded, roomFault}
 use Rattle.decoder.specs.declared.SyndromeAnswer.{SyndromeAnswer}
 
 -- 01: "The syndrome of a Pauli has one bit for each g row, in sheet order: 1 if they anticommute; the Pauli's mask bits above qubit n
@@ -38,18 +39,23 @@ readBit = readByte bitByte (false ∷ true ∷ [])
 unfoldable pub syndromeText : List Bool → List ℕ
 syndromeText bits = map bitByte bits
 
+unfoldable pub isNone : {A : Type 0} → Option A → Bool
+isNone none = true
+isNone (some a) = false
+
 -- 16: "not exactly r characters 0 or 1"
 unfoldable pub readSyndrome : ℕ → List ℕ → Option (List Bool)
 readSyndrome r cs = cond (eqb (length cs) r) (readEach readBit cs) none
 
+-- 16 of a syndrome that stands alone, which names line 0.
+unfoldable pub syndromeFault : ℕ → List ℕ → Option Refusal
+syndromeFault r cs = refuseIf (isNone (readSyndrome r cs)) (Refusal.Syndrome 0)
+
 -- 01: "A call gives it as r characters 0 or 1 in the buffer's first r bytes; the rest stays." 15, then 17.
 unfoldable pub writeSyndrome : Code → Pauli → List ℕ → After SyndromeAnswer
 writeSyndrome c P buffer =
-    cond (withinLimits c)
-    (cond (leb (c .r) (length buffer))
+    guarded SyndromeAnswer.Refused (limitsFault c then roomFault (c .r) buffer) buffer
     (record { answer = SyndromeAnswer.Given; buffer = laid (syndromeText (syndrome (generators c) P)) buffer })
-    (untouched (SyndromeAnswer.Refused Refusal.ShortBuffer) buffer))
-    (untouched (SyndromeAnswer.Refused Refusal.RecordLimits) buffer)
 
 -- The refusal that an answer carries, where it is one.
 unfoldable pub syndromeRefusal : SyndromeAnswer → Option Refusal

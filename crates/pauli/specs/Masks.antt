@@ -3,7 +3,7 @@ use mathlib.Core.List.{List, [], _∷_}
 use Prim.Native.Nat.{ℕ, zero, suc, _+_, _/_, _%_}
 use lib.Bits.{bitAnd}
 
--- The ones among the lowest k bits of a mask. It ends once the rest of the mask is 0, so it takes as many steps as the mask has digits.
+-- The ones among the lowest k bits of a mask. It ends once the rest of the mask is 0, so it takes as many steps as the mask has binary digits.
 unfoldable pub onesAmong : ℕ → ℕ → ℕ
 onesAmong zero m = 0
 onesAmong (suc k) zero = 0

@@ -10,7 +10,7 @@ use Rattle.reporting.specs.Statements.{ReportRefusalsLeave, CorrectionsA
 
 pub report-refusals-leave : ReportRefusalsLeave
 unfolding writeReport
-report-refusals-leave s buffer = written-leaves (reportText s) buffer
+report-refusals-leave s buffer = written-leaves _ _ buffer
 
 pub corrections-are-reported : CorrectionsAreReported
 unfolding correctionLine correctionValue

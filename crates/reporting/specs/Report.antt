@@ -11,7 +11,7 @@ use Rattle.sheet.specs.declared.ErrorPair.{ErrorPair}
 use Rattle.sheet.specs.declared.Refusal.{Refusal}
 use Rattle.sheet.specs.declared.Written.{Written}
 use Rattle.sheet.specs.Refusals.{values}
-use Rattle.sheet.specs.Record.{logicalCount, radius, claimedLine}
+use Rattle.sheet.specs.Record.{logicalCount, radius, claimAt}
 use Rattle.sheet.specs.Text.{line, decimal, After, written}
 use Rattle.sheet.specs.Reader.{Reader, Parsed, got, stop, done, _>>=_, readLine, readLines}
 use Rattle.stabilizer.specs.Canonical.{canonicalText}
@@ -57,24 +57,26 @@ codeText c =
     line "n=" (decimal (c .n)) ++ line "k=" (decimal (logicalCount c)) ++ line "d=" (decimal (c .d))
     ++ line "t=" (decimal (radius c)) ++ canonicalText c
 
-unfoldable pub answersText : Code → Parsed (List (List Bool)) → List ℕ
-answersText c (got syndromes end) = codeText c ++ flatMap (correctionLine c) syndromes
-answersText c (stop refusal) = refusalText refusal
+-- The report of the code c, by what was read of the `s=` lines.
+unfoldable pub reportOfSyndromes : Code → Parsed (List (List Bool)) → List ℕ
+reportOfSyndromes c (got syndromes end) = codeText c ++ flatMap (correctionLine c) syndromes
+reportOfSyndromes c (stop refusal) = refusalText refusal
 
--- A report of the code c with these bytes behind w, by c's first fault.
-unfoldable pub checkedText : Code → List ℕ → Option Refusal → List ℕ
-checkedText c rest none = answersText c (syndromeLines (length rest) c (claimedLine c + 1) rest)
-checkedText c rest (some refusal) = refusalText refusal
+-- The report of the code c with these bytes behind w, by c's first fault.
+unfoldable pub reportOfCode : Code → List ℕ → Option Refusal → List ℕ
+reportOfCode c rest none = reportOfSyndromes c (syndromeLines (length rest) c (claimAt c + 1) rest)
+reportOfCode c rest (some refusal) = refusalText refusal
 
-unfoldable pub linesText : Parsed Code → List ℕ
-linesText (got c rest) = checkedText c rest (codeFault c)
-linesText (stop refusal) = refusalText refusal
+-- The report by what was read of the sheet's lines.
+unfoldable pub reportOfLines : Parsed Code → List ℕ
+reportOfLines (got c rest) = reportOfCode c rest (codeFault c)
+reportOfLines (stop refusal) = refusalText refusal
 
 -- 01: "Reports read a sheet and then any number of `s=` lines": the lines of the sheet, 6 to 14, "then, in a report, 16 line by line".
 unfoldable pub reportText : List ℕ → List ℕ
-reportText s = linesText (readLines s)
+reportText s = reportOfLines (readLines s)
 
 -- 01: "a report writes refusals 1 to 14 and 16 as text; where that text is longer than the buffer, 17 is the answer and nothing is
 -- written."
 unfoldable pub writeReport : List ℕ → List ℕ → After Written
-writeReport s buffer = written (reportText s) buffer
+writeReport s buffer = written none (reportText s) buffer

@@ -1,6 +1,6 @@
 -- What is stated of the report.
 use mathlib.Core.Bool.{Bool}
-use mathlib.Core.List.{List, [], _++_, map, flatMap, List·Mem}
+use mathlib.Core.List.{List, [], _∷_, _++_, map, flatMap, List·Mem}
 use mathlib.Core.Option.{some}
 use mathlib.Core.Path.{_≡_}
 use Prim.Native.Nat.{ℕ, _≤_}
@@ -12,7 +12,7 @@ use Rattle.sheet.specs.declared.Refusal.{Refusal}
 use Rattle.sheet.specs.Reader.{got, readForm}
 use Rattle.sheet.specs.Record.{generators}
 use Rattle.sheet.specs.Refusals.{writtenRefusal}
-use Rattle.sheet.specs.Statements.{RefusalLeaves}
+use Rattle.sheet.specs.Statements.{RefusalLeaves, Among}
 use Rattle.sheet.specs.Text.{line}
 use Rattle.admission.specs.declared.Admission.{Admission}
 use Rattle.admission.specs.Admission.{codeFault, readSheet}
@@ -24,7 +24,11 @@ use Rattle.reporting.specs.Report.{codeText, correctionLine, refusalText
 abbrev pub ReportFits : Type 0
 ReportFits = (s : List ℕ) → length (reportText s) ≤ 32768
 
--- The one refusal of a report's call, 17, leaves the buffer as it was.
+-- The one refusal of a report's call is 17, and it leaves the buffer as it was.
+abbrev pub ReportRefusalNumbers : Type 0
+ReportRefusalNumbers =
+    (s buffer : List ℕ) (refusal : Refusal) → writtenRefusal (writeReport s buffer .answer) ≡ some refusal → Among (17 ∷ []) refusal
+
 abbrev pub ReportRefusalsLeave : Type 0
 ReportRefusalsLeave = (s buffer : List ℕ) → RefusalLeaves writtenRefusal buffer (writeReport s buffer)
 

@@ -19,7 +19,7 @@ use Rattle.sheet.specs.declared.Written.{Written}
 use Rattle.sheet.specs.Edges.{sheetA}
 use Rattle.sheet.specs.Opened.{opened}
 use Rattle.sheet.specs.Reader.{Parsed, got, stop, readForm, linesReading, formReading}
-use Rattle.sheet.specs.Record.{codeOf, emptyCode, filled, between, withinLimits, logicalCount, radius, claimedLine}
+use Rattle.sheet.specs.Record.{codeOf, emptyCode, filled, between, withinLimits, logicalCount, radius, claimAt}
 use Rattle.sheet.specs.Refusals.{values}
 use Rattle.sheet.specs.Text.{decimal, lineFeed, untouched}
 use Rattle.sheet.specs.Statements.{Sized}
@@ -170,11 +170,11 @@ unfolding code24 opened
 longest-within-limits = refl
 
 -- k, t and the line of w
-numbers-a : (logicalCount codeA ≡ 1) × (radius codeA ≡ 1) × (claimedLine codeA ≡ 9)
+numbers-a : (logicalCount codeA ≡ 1) × (radius codeA ≡ 1) × (claimAt codeA ≡ 9)
 unfolding codeA opened
 numbers-a = (refl, refl, refl)
 
-numbers-24 : (logicalCount code24 ≡ 23) × (radius code24 ≡ 3) × (claimedLine code24 ≡ 50)
+numbers-24 : (logicalCount code24 ≡ 23) × (radius code24 ≡ 3) × (claimAt code24 ≡ 50)
 unfolding code24 opened
 numbers-24 = (refl, refl, refl)
 

@@ -17,7 +17,7 @@ use Rattle.sheet.specs.declared.Refusal.{Refusal}
 use Rattle.sheet.specs.declared.Lines.{Lines}
 use Rattle.sheet.specs.declared.LinesReading.{LinesReading}
 use Rattle.sheet.specs.Text.{lineFeed}
-use Rattle.sheet.specs.Record.{between, codeOf, emptyCode, generatorLine, claimedLine}
+use Rattle.sheet.specs.Record.{between, codeOf, emptyCode, generatorsAt, claimAt}
 
 -- What a reader gives: a value and the rest of the bytes, or the refusal that ends the reading.
 pub data Parsed (A : Type 0) : Type 0 where
@@ -111,7 +111,7 @@ generatorLines (suc left) n at s =
 -- 01: 5 where the "first place does not begin `g=`".
 unfoldable pub allGeneratorLines : ℕ → Reader (List Pauli)
 allGeneratorLines n s =
-    cond (begins (bytes "g=") s) (generatorLines (n - 1) n generatorLine s) (stop (Refusal.GeneratorCount generatorLine))
+    cond (begins (bytes "g=") s) (generatorLines (n - 1) n generatorsAt s) (stop (Refusal.GeneratorCount generatorsAt))
 
 -- The k lines of the X or of the Z logicals, from the line `at` on.
 unfoldable pub logicalLines : ℕ → String → ℕ → ℕ → Reader (List Pauli)
@@ -131,9 +131,9 @@ linesAfter n d gs =
     let r = length gs in
     let k = n - r in
     do
-      xs ← logicalLines k "x=" n (generatorLine + r)
-      zs ← logicalLines k "z=" n (generatorLine + r + k)
-      w ← claimLine n (generatorLine + r + 2 * k)
+      xs ← logicalLines k "x=" n (generatorsAt + r)
+      zs ← logicalLines k "z=" n (generatorsAt + r + k)
+      w ← claimLine n (generatorsAt + r + 2 * k)
       done (codeOf n d gs xs zs w)
 
 -- The lines of a sheet, in order. What stands behind w is the rest.
@@ -151,7 +151,7 @@ readLines s = cond (ltb 4096 (length s)) (stop Refusal.TooLong) (sheetLines s)
 -- 01: "for a sheet read by itself, bytes behind w": 2 at the line after w.
 unfoldable pub nothingBehind : Code → Reader Code
 nothingBehind c [] = got c []
-nothingBehind c (b ∷ s) = stop (Refusal.Form (claimedLine c + 1))
+nothingBehind c (b ∷ s) = stop (Refusal.Form (claimAt c + 1))
 
 -- The form of a sheet read by itself.
 unfoldable pub readForm : Reader Code

@@ -31,14 +31,14 @@ unfoldable pub logicalZs : Code → List Pauli
 logicalZs c = take (logicalCount c) (c .z)
 
 -- The lines of a sheet count from 1: n, d, the r generators, the k X logicals, the k Z logicals, w.
-unfoldable pub generatorLine : ℕ
-generatorLine = 3
+unfoldable pub generatorsAt : ℕ
+generatorsAt = 3
 
-unfoldable pub logicalLine : Code → ℕ
-logicalLine c = generatorLine + c .r
+unfoldable pub logicalsAt : Code → ℕ
+logicalsAt c = generatorsAt + c .r
 
-unfoldable pub claimedLine : Code → ℕ
-claimedLine c = logicalLine c + 2 * logicalCount c
+unfoldable pub claimAt : Code → ℕ
+claimAt c = logicalsAt c + 2 * logicalCount c
 
 -- Rows in an array of m places, with +I in the places behind them.
 unfoldable pub filled : ℕ → List Pauli → List Pauli
@@ -61,11 +61,11 @@ between low high m = leb low m && leb m high
 unfoldable pub onQubits : ℕ → Pauli → Bool
 onQubits n P = ltb (P .a) (2 ^ n) && ltb (P .b) (2 ^ n)
 
--- 01: "each row's phase that of a signed row"
+-- 01: "no mask bit above qubit n, each row's phase that of a signed row"
 unfoldable pub isRow : ℕ → Pauli → Bool
 isRow n P = onQubits n P && isSignedRow P
 
--- 01: "w with sign +"
+-- 01: "no mask bit above qubit n", "w with sign +"
 unfoldable pub isClaim : ℕ → Pauli → Bool
 isClaim n P = onQubits n P && hasSign plus P
 

@@ -1,16 +1,18 @@
 -- What is stated of the reader and the writer together.
 use mathlib.Core.Bool.{true}
-use mathlib.Core.List.{List, [], _++_, map}
+use mathlib.Core.List.{List, [], _∷_, _++_, map}
 use mathlib.Core.Option.{Option, some}
 use mathlib.Core.Path.{_≡_}
 use Prim.Native.Nat.{ℕ, _%_, _≤_}
+use lib.Dec.{eqb}
 use lib.ListN.{length}
 use Rattle.pauli.specs.declared.Pauli.{Pauli}
+use Rattle.pauli.specs.Lists.{anyOf}
 use Rattle.sheet.specs.declared.Code.{Code}
 use Rattle.sheet.specs.declared.Refusal.{Refusal}
-use Rattle.sheet.specs.Reader.{got, readForm, readLines}
+use Rattle.sheet.specs.Reader.{got, readForm, readLines, linesReading}
 use Rattle.sheet.specs.Record.{withinLimits}
-use Rattle.sheet.specs.Refusals.{writtenRefusal}
+use Rattle.sheet.specs.Refusals.{values, linesRefusal, writtenRefusal}
 use Rattle.sheet.specs.Text.{After}
 use Rattle.sheet.specs.Writer.{sheetText, writeSheet}
 
@@ -52,9 +54,24 @@ pub record LongestSheet : Type 0 where
   pub most : (s : List ℕ) (c : Code) → readForm s ≡ got c [] → length s ≤ 1352
   pub reached : (s : List ℕ) × (c : Code) × (readForm s ≡ got c []) × (c .n ≡ 24) × (c .r ≡ 1) × (length s ≡ 1352)
 
+-- ---- what a refusal leaves
+
 -- 01: "Every refusal leaves them untouched": where the answer of a call carries a refusal, the buffer is what it was.
 pub record RefusalLeaves {A : Type 0} (refusalOf : A → Option Refusal) (buffer : List ℕ) (after : After A) : Type 0 where
   pub unchanged : (refusal : Refusal) → refusalOf (after .answer) ≡ some refusal → after .buffer ≡ buffer
 
 abbrev pub WriterRefusalsLeave : Type 0
 WriterRefusalsLeave = (c : Code) (buffer : List ℕ) → RefusalLeaves writtenRefusal buffer (writeSheet c buffer)
+
+-- ---- the numbers
+
+-- The refusal has one of these numbers. Demand 1: "Refused, by document 01's numbers and nothing beyond them".
+abbrev pub Among : List ℕ → Refusal → Type 0
+Among numbers refusal = anyOf (eqb (values refusal .number)) numbers ≡ true
+
+-- The numbers with which the reader of the lines and the writer refuse.
+pub record SheetRefusalNumbers : Type 0 where
+  pub lines : (s : List ℕ) (refusal : Refusal) → linesRefusal (linesReading s .answer) ≡ some refusal
+      → Among (1 ∷ 2 ∷ 3 ∷ 4 ∷ 5 ∷ []) refusal
+  pub writer : (c : Code) (buffer : List ℕ) (refusal : Refusal) → writtenRefusal (writeSheet c buffer .answer) ≡ some refusal
+      → Among (15 ∷ 17 ∷ []) refusal

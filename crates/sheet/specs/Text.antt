@@ -1,15 +1,16 @@
 -- Texts: lines and numbers, and what an output buffer holds after a call.
-use mathlib.Core.Bool.{cond, true, false}
+use mathlib.Core.Bool.{true, false}
 use mathlib.Core.List.{List, [], _∷_, _++_}
 use mathlib.Core.Option.{Option, none, some}
 use Prim.Native.Nat.{ℕ, zero, suc, _+_, _/_, _%_}
 use Prim.Native.Char.{code}
 use Prim.Native.String.{String}
-use lib.Dec.{ltb, leb}
+use lib.Dec.{ltb}
 use lib.ListN.{length, drop}
 use Rattle.pauli.specs.Lists.{bytes}
 use Rattle.sheet.specs.declared.Refusal.{Refusal}
 use Rattle.sheet.specs.declared.Written.{Written}
+use Rattle.sheet.specs.Refusals.{refuseIf, _then_}
 
 -- 01: "each closed by a line feed (byte 10)"
 unfoldable pub lineFeed : ℕ
@@ -41,15 +42,19 @@ laid text buffer = text ++ drop (length text) buffer
 unfoldable pub untouched : {A : Type 0} → A → List ℕ → After A
 untouched answer buffer = record { answer = answer; buffer = buffer }
 
--- A call whose answer is a text: 17 where the buffer is shorter, else the text and its count of bytes.
--- 01: "A report, the writer and a tidying return the count of bytes written; the bytes behind an answer stay."
-unfoldable pub written : List ℕ → List ℕ → After Written
-written text buffer =
-    cond (leb (length text) (length buffer))
-    (record { answer = Written.Count (length text); buffer = laid text buffer })
-    (untouched (Written.Refused Refusal.ShortBuffer) buffer)
+-- A call that is lent a buffer. The first fault of its checks is its answer, and the buffer stays; where there is none, the call has its own
+-- answer.
+unfoldable pub guarded : {A : Type 0} → (Refusal → A) → Option Refusal → List ℕ → After A → After A
+guarded refused none buffer after = after
+guarded refused (some refusal) buffer after = untouched (refused refusal) buffer
 
--- The same behind other checks.
-unfoldable pub writtenUnless : Option Refusal → List ℕ → List ℕ → After Written
-writtenUnless none text buffer = written text buffer
-writtenUnless (some refusal) text buffer = untouched (Written.Refused refusal) buffer
+-- 17: the buffer is "shorter than the answer", which has m bytes.
+unfoldable pub roomFault : ℕ → List ℕ → Option Refusal
+roomFault m buffer = refuseIf (ltb (length buffer) m) Refusal.ShortBuffer
+
+-- A call whose answer is a text, with 17 behind its other checks.
+-- 01: "A report, the writer and a tidying return the count of bytes written; the bytes behind an answer stay."
+unfoldable pub written : Option Refusal → List ℕ → List ℕ → After Written
+written fault text buffer =
+    guarded Written.Refused (fault then roomFault (length text) buffer) buffer
+    (record { answer = Written.Count (length text); buffer = laid text buffer })

@@ -6,7 +6,7 @@ use Rattle.pauli.specs.declared.Pauli.{Pauli}
 use Rattle.pauli.specs.Letters.{letterText, rowText}
 use Rattle.sheet.specs.declared.Code.{Code}
 use Rattle.sheet.specs.declared.Written.{Written}
-use Rattle.sheet.specs.Text.{line, decimal, After, writtenUnless}
+use Rattle.sheet.specs.Text.{line, decimal, After, written}
 use Rattle.sheet.specs.Record.{generators, logicalXs, logicalZs, limitsFault}
 
 unfoldable pub rowLines : String → ℕ → List Pauli → List ℕ
@@ -20,4 +20,4 @@ sheetText c =
 
 -- The writer's call: 15, then 17, then the sheet's bytes and their count.
 unfoldable pub writeSheet : Code → List ℕ → After Written
-writeSheet c buffer = writtenUnless (limitsFault c) (sheetText c) buffer
+writeSheet c buffer = written (limitsFault c) (sheetText c) buffer

@@ -1,8 +1,8 @@
 -- A refusal of the call for canonical generators leaves the buffer as it was.
-use Rattle.sheet.proofs.Untouched.{writtenUnless-leaves}
+use Rattle.sheet.proofs.Untouched.{written-leaves}
 use Rattle.stabilizer.specs.Canonical.{writeCanonical}
 use Rattle.stabilizer.specs.Statements.{CanonicalRefusalsLeave}
 
 pub canonical-refusals-leave : CanonicalRefusalsLeave
 unfolding writeCanonical
-canonical-refusals-leave c buffer = writtenUnless-leaves _ _ buffer
+canonical-refusals-leave c buffer = written-leaves _ _ buffer

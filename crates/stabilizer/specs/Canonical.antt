@@ -16,7 +16,7 @@ use Rattle.sheet.specs.declared.Code.{Code}
 use Rattle.sheet.specs.declared.Written.{Written}
 use Rattle.sheet.specs.Record.{generators, isRow, limitsFault}
 use Rattle.sheet.specs.Refusals.{_then_}
-use Rattle.sheet.specs.Text.{After, writtenUnless}
+use Rattle.sheet.specs.Text.{After, written}
 use Rattle.sheet.specs.Writer.{rowLines}
 use Rattle.stabilizer.specs.Group.{InGroup}
 use Rattle.stabilizer.specs.Checks.{generatorFault}
@@ -79,4 +79,4 @@ canonicalText c = rowLines "h=" (c .n) (canonicalGenerators (c .n) (generators c
 
 -- 01: "A call on a record gives them as their `h=` lines; checks 6 to 8 run between 15 and 17, lines as in its written sheet."
 unfoldable pub writeCanonical : Code → List ℕ → After Written
-writeCanonical c buffer = writtenUnless (limitsFault c then generatorFault (generators c)) (canonicalText c) buffer
+writeCanonical c buffer = written (limitsFault c then generatorFault (generators c)) (canonicalText c) buffer

@@ -7,7 +7,7 @@ use Rattle.pauli.specs.Lists.{anyOf}
 use Rattle.pauli.specs.Product.{identity, product, anticommutes, samePauli}
 use Rattle.sheet.specs.declared.Family.{Family}
 use Rattle.sheet.specs.declared.Refusal.{Refusal}
-use Rattle.sheet.specs.Record.{generatorLine}
+use Rattle.sheet.specs.Record.{generatorsAt}
 use Rattle.sheet.specs.Refusals.{_then_, refuseIf}
 use Rattle.stabilizer.specs.Group.{group}
 
@@ -34,4 +34,4 @@ dependence before at P =
 
 -- 01: "6 to 14 run in table order, each over all its rows, 7 and 8 together as one check; .."
 unfoldable pub generatorFault : List Pauli → Option Refusal
-generatorFault rows = firstFault clash [] generatorLine rows then firstFault dependence [] generatorLine rows
+generatorFault rows = firstFault clash [] generatorsAt rows then firstFault dependence [] generatorsAt rows
