@@ -1,50 +1,55 @@
--- Other sheets at the edges, read by themselves and computed.
-use mathlib.Core.List.{[], _∷_}
+-- Other sheets read by themselves, computed: published codes, and sheets with two faults, of which the first in the table of 01 is the answer.
+use mathlib.Core.List.{List, [], _∷_, List·Memᴰ}
 use mathlib.Core.Path.{_≡_, refl}
-use Prim.Native.String.{String, _++_}
 use Rattle.pauli.specs.Letters.{I, X, Y, Z, ofLetters}
 use Rattle.pauli.specs.Lists.{bytes}
+use Rattle.pauli.proofs.Table.{each}
 use Rattle.sheet.specs.declared.Family.{Family}
 use Rattle.sheet.specs.declared.Refusal.{Refusal}
-use Rattle.sheet.specs.Edges.{nineQubits, sheetC}
+use Rattle.sheet.specs.Edges.{nineQubits, eightQubits, fourQubits, fiveQubits, sheetC}
 use Rattle.sheet.specs.Record.{emptyCode}
 use Rattle.admission.specs.declared.Admission.{Admission}
 use Rattle.admission.specs.Admission.{readSheet}
 use Rattle.admission.specs.Distance.{refutingPair}
 use Rattle.admission.specs.Opened.{opened}
+use Rattle.admission.specs.Starred.{Entry}
 
--- Nine qubits: ZZ on 1-2 has weight 2, commutes with every generator, and is no logical error, since it is a generator.
-nine-qubits-admitted : readSheet (bytes nineQubits) .answer ≡ Admission.Admitted
-unfolding opened
-nine-qubits-admitted = refl
+others : List Entry
+others =
+    -- ZZ on qubits 1 and 2 has weight 2, commutes with every generator, and is no logical error, since it is a generator.
+    record { sheet = nineQubits; answer = Admission.Admitted }
+    ∷ record { sheet = eightQubits; answer = Admission.Admitted }
+    -- As printed, the two X rows anticommute. 9 runs over all rows before 10 begins, so it is met at the last row first.
+    ∷ record { sheet = fourQubits "+IXZZ"; answer = Admission.Refused (Refusal.LogicalPairing 6 Family.LogicalX) }
+    ∷ record { sheet = fourQubits "+IXII"; answer = Admission.Refused (Refusal.LogicalAnticommutes 8 Family.LogicalZ) }
+    -- 6, and 7, before 9 and 10
+    ∷ record {
+      sheet = "n=3\nd=1\ng=+XII\ng=+ZII\nx=+XII\nz=+XII\nw=IIX\n";
+      answer = Admission.Refused (Refusal.GeneratorsAnticommute 4 Family.Generator);
+    }
+    ∷ record {
+      sheet = "n=4\nd=1\ng=+XXII\ng=+ZZII\ng=+YYII\nx=+IXXI\nz=+IIZI\nw=IIXI\n";
+      answer = Admission.Refused (Refusal.MinusIdentity 5 Family.Generator);
+    }
+    -- 10 before 11, and 11 before 12 and 13
+    ∷ record { sheet = fiveQubits "3" "+XXXXX" "+XXXXX" "XXXXX"; answer = Admission.Refused (Refusal.LogicalPairing 8 Family.LogicalZ) }
+    ∷ record { sheet = fiveQubits "3" "+XXXXX" "+ZZZZZ" "XIIII"; answer = Admission.Refused (Refusal.ClaimedWeight 9) }
+    ∷ record { sheet = fiveQubits "3" "+XXXXX" "+ZZZZZ" "XZZXI"; answer = Admission.Refused (Refusal.ClaimedWeight 9) }
+    -- The heaviest error that refutes a distance d has weight d - 1. Of one letter, F has none.
+    ∷ record {
+      sheet = "n=2\nd=2\ng=+ZZ\nx=+XX\nz=+ZI\nw=XX\n";
+      answer = Admission.Refused (Refusal.DistanceRefuted 6 (record { n = 2; e = ofLetters (I ∷ Z ∷ []); f = ofLetters (I ∷ I ∷ []) }));
+    }
+    ∷ []
 
--- Document 000, table 3.5, as printed: the two X rows anticommute, so it is 10 at the second, line 6.
-fourQubits : String → String
-fourQubits lastZ =
-    "n=4\nd=2\ng=+XZZX\ng=+YXXY\nx=+XXXX\nx=+XIXZ\nz=+YZYI\nz=" ++ lastZ ++ "\nw=XIXI\n"
-
-four-qubits-mispaired :
-    readSheet (bytes (fourQubits "+IXZZ")) .answer ≡ Admission.Refused (Refusal.LogicalPairing 6 Family.LogicalX)
-unfolding fourQubits opened
-four-qubits-mispaired = refl
-
--- 9 runs over all its rows before 10 begins: it is met at the last row, though 10 would be met at the second.
-detected-before-pairing :
-    readSheet (bytes (fourQubits "+IXII")) .answer ≡ Admission.Refused (Refusal.LogicalAnticommutes 8 Family.LogicalZ)
-unfolding fourQubits opened
-detected-before-pairing = refl
+others-right : (e : Entry) → List·Memᴰ e others → readSheet (bytes (e .sheet)) .answer ≡ e .answer
+unfolding others opened
+others-right = each (λ e. readSheet (bytes (e .sheet)) .answer) (λ e. e .answer) others refl
 
 -- Beside a refusal stands the empty record.
 refused-record : readSheet (bytes sheetC) .code ≡ emptyCode
 unfolding opened
 refused-record = refl
-
--- The heaviest error that refutes a distance d has weight d - 1; of one letter, F has none.
-refuted-by-one-letter :
-    readSheet (bytes "n=2\nd=2\ng=+ZZ\nx=+XX\nz=+ZI\nw=XX\n") .answer
-    ≡ Admission.Refused (Refusal.DistanceRefuted 6 (record { n = 2; e = ofLetters (I ∷ Z ∷ []); f = ofLetters (I ∷ I ∷ []) }))
-unfolding opened
-refuted-by-one-letter = refl
 
 -- Six letters other than I: the first three are E, and the others F. Of five, three are E.
 split-errors :

@@ -1,15 +1,12 @@
 -- 01, "Sheets at the edges": the answers of the starred sheets A to L, each read by itself, with families and the two errors of C.
 -- proofs/Starred.antt proves every entry from the definitions.
 use mathlib.Core.List.{List, [], _∷_}
-use mathlib.Core.Path.{_≡_}
 use Prim.Native.String.{String}
 use Rattle.pauli.specs.Letters.{I, X, Y, ofLetters}
-use Rattle.pauli.specs.Lists.{bytes}
 use Rattle.sheet.specs.declared.Family.{Family}
 use Rattle.sheet.specs.declared.Refusal.{Refusal}
 use Rattle.sheet.specs.Edges.{sheetA, sheetB, sheetC, sheetD, sheetE, sheetF, sheetG, sheetH, sheetI, sheetJ, sheetK, sheetL}
 use Rattle.admission.specs.declared.Admission.{Admission}
-use Rattle.admission.specs.Admission.{readSheet}
 
 pub record Entry : Type 0 where
   pub sheet : String
@@ -33,7 +30,3 @@ starred =
     ∷ record { sheet = sheetK; answer = Admission.Admitted }
     ∷ record { sheet = sheetL; answer = Admission.Admitted }
     ∷ []
-
--- An entry is right: the sheet has that answer.
-abbrev pub Right : Entry → Type 0
-Right e = readSheet (bytes (e .sheet)) .answer ≡ e .answer

@@ -38,6 +38,10 @@ syndrome-short : writeSyndrome codeA (ofLetters []) (bytes "abc") ≡ untouched 
 unfolding codeA opened
 syndrome-short = refl
 
+syndrome-outside : writeSyndrome emptyCode (ofLetters []) (bytes "abc") ≡ untouched (SyndromeAnswer.Refused Refusal.RecordLimits) (bytes "abc")
+unfolding opened
+syndrome-outside = refl
+
 -- ---- corrections
 
 decode-a : decode codeA (bytes "0001") (bytes "abcdefg") ≡ record { answer = Decoded.Correction; buffer = bytes "XIIIIfg" }

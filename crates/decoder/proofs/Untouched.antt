@@ -1,6 +1,5 @@
 -- A refusal of the syndrome call and of the decode call leaves the buffer as it was, and so does the answer `none`: the outcomes of each call, taken
 -- one by one.
-use mathlib.Core.Bool.{Bool}
 use mathlib.Core.List.{List}
 use mathlib.Core.Option.{Option, none, some}
 use mathlib.Core.Path.{_≡_, refl, ap}

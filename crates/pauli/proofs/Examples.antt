@@ -35,13 +35,11 @@ unfolding opened
 y-squared = refl
 
 -- X times Z is i^3 Y, and Z times X is i Y
-xz : product (ofLetters (X ∷ [])) (ofLetters (Z ∷ [])) ≡ record { p = 0; a = 1; b = 1 }
+xz-zx :
+    (product (ofLetters (X ∷ [])) (ofLetters (Z ∷ [])) ≡ product (record { p = 3; a = 0; b = 0 }) (ofLetters (Y ∷ [])))
+    × (product (ofLetters (Z ∷ [])) (ofLetters (X ∷ [])) ≡ product (record { p = 1; a = 0; b = 0 }) (ofLetters (Y ∷ [])))
 unfolding opened
-xz = refl
-
-zx : product (ofLetters (Z ∷ [])) (ofLetters (X ∷ [])) ≡ record { p = 2; a = 1; b = 1 }
-unfolding opened
-zx = refl
+xz-zx = (refl, refl)
 
 -- "XX times ZZ .. is -YY"
 xx-zz : product (ofLetters (X ∷ X ∷ [])) (ofLetters (Z ∷ Z ∷ [])) ≡ signedRow minus (Y ∷ Y ∷ [])

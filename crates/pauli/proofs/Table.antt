@@ -1,14 +1,10 @@
--- A table of examples: what is proved of all its entries, one after the other, holds of each.
-use mathlib.Core.Path.{sym, subst}
-use mathlib.Core.List.{List, [], _∷_, List·Memᴰ, List·Memᴰ·cases-cons, List·Memᴰ·not-nil}
+-- A table of examples: two functions that agree on the whole table, which is computed at once, agree on each entry.
+use mathlib.Core.List.{List, [], _∷_, map, head-eq-of-cons-eq, tail-eq-of-cons-eq, List·Memᴰ, List·Memᴰ·cases-cons, List·Memᴰ·not-nil}
 use mathlib.Core.Logic.{⊎-elim}
+use mathlib.Core.Path.{_≡_, ap, sym, _∙_}
 
-module _ {A : Type 0} (Right : A → Type 0) where
-  abbrev pub All : List A → Type 0
-  All [] = Unit {0}
-  All (x ∷ xs) = Right x × All xs
-
-  pub each : (table : List A) → All table → (x : A) → List·Memᴰ x table → Right x
-  each [] all x m = absurd (List·Memᴰ·not-nil m)
-  each (y ∷ table) all x m =
-      ⊎-elim (λ e. subst Right (sym e) (all .0)) (λ later. each table (all .1) x later) (List·Memᴰ·cases-cons m)
+pub each : {A B : Type 0} (f g : A → B) (table : List A) → map f table ≡ map g table → (x : A) → List·Memᴰ x table → f x ≡ g x
+each f g [] all x m = absurd (List·Memᴰ·not-nil m)
+each f g (y ∷ table) all x m =
+    ⊎-elim (λ e. ap f e ∙ head-eq-of-cons-eq all ∙ sym (ap g e)) (λ later. each f g table (tail-eq-of-cons-eq all) x later)
+    (List·Memᴰ·cases-cons m)

@@ -6,17 +6,17 @@ use Prim.Native.Nat.{ℕ, zero, suc, _-_}
 use lib.ListN.{replicate}
 use Rattle.pauli.specs.Letters.{Letter, I, X, Z, plus, minus, signedRow, ofLetters}
 use Rattle.pauli.specs.Lists.{bytes}
-use Rattle.pauli.proofs.Table.{All, each}
+use Rattle.pauli.proofs.Table.{each}
 use Rattle.sheet.specs.declared.Code.{Code}
 use Rattle.sheet.specs.declared.Refusal.{Refusal}
 use Rattle.sheet.specs.declared.Written.{Written}
-use Rattle.sheet.specs.Edges.{nineQubits, sheetC, sheetK}
+use Rattle.sheet.specs.Edges.{nineQubits, eightQubits, fourQubits, sheetC, sheetK}
 use Rattle.sheet.specs.Record.{codeOf}
 use Rattle.sheet.specs.Text.{lineFeed, untouched}
 use Rattle.sheet.specs.Writer.{sheetText}
 use Rattle.reporting.specs.Opened.{opened}
 use Rattle.reporting.specs.Report.{reportText, writeReport}
-use Rattle.reporting.specs.Starred.{Entry, Right}
+use Rattle.reporting.specs.Starred.{Entry}
 
 -- Codes on which a wrong reading of 01 differs from the right one.
 others : List Entry
@@ -33,12 +33,12 @@ others =
     }
     -- Document 000, table 3.3: eight qubits, three of them logical.
     ∷ record {
-      input = "n=8\nd=3\ng=+XXXXXXXX\ng=+ZZZZZZZZ\ng=+IXIXYZYZ\ng=+IXZYIXZY\ng=+IYXZXZIY\nx=+XXIIIZIZ\nx=+XIXZIIZI\nx=+XIIZXZII\nz=+IZIZIZIZ\nz=+IIZZIIZZ\nz=+IIIIZZZZ\nw=IIIIIZXY\n";
+      input = eightQubits;
       output = "n=8\nk=3\nd=3\nt=1\nh=+XZIYIYXZ\nh=+IXZYIXZY\nh=-IZXYZIYX\nh=-IIZZYYXX\nh=+ZZZZZZZZ\n";
     }
     -- Document 000, table 3.5: 10 at line 6; with another last row 9 at line 8 comes before it.
-    ∷ record { input = "n=4\nd=2\ng=+XZZX\ng=+YXXY\nx=+XXXX\nx=+XIXZ\nz=+YZYI\nz=+IXZZ\nw=XIXI\n"; output = "r=10\nat=6\n" }
-    ∷ record { input = "n=4\nd=2\ng=+XZZX\ng=+YXXY\nx=+XXXX\nx=+XIXZ\nz=+YZYI\nz=+IXII\nw=XIXI\n"; output = "r=9\nat=8\n" }
+    ∷ record { input = fourQubits "+IXZZ"; output = "r=10\nat=6\n" }
+    ∷ record { input = fourQubits "+IXII"; output = "r=9\nat=8\n" }
     -- "n=3 with +XII, +ZII: 6, line 4"
     ∷ record { input = "n=3\nd=1\ng=+XII\ng=+ZII\nx=+IIX\nz=+IIZ\nw=IIX\n"; output = "r=6\nat=4\n" }
     -- K and what stands behind it. Its w is line 6, so its first syndrome is line 7.
@@ -54,13 +54,9 @@ others =
     ∷ record { input = sheetC ⧺ "s=\n"; output = "r=14\nat=9\ne=IIXYI\nf=IIIIX\n" }
     ∷ []
 
-all-right : All Right others
-unfolding others opened
-all-right =
-    (refl, (refl, (refl, (refl, (refl, (refl, (refl, (refl, (refl, (refl, (refl, (refl, (refl, (refl, (refl, tt)))))))))))))))
-
 others-right : (e : Entry) → List·Memᴰ e others → reportText (bytes (e .input)) ≡ bytes (e .output)
-others-right = each Right others all-right
+unfolding others opened
+others-right = each (λ e. reportText (bytes (e .input))) (λ e. bytes (e .output)) others refl
 
 -- 1 comes before the sheet is looked at, and counts the `s=` lines too.
 too-long : reportText (bytes sheetK ++ replicate 4066 lineFeed) ≡ bytes "r=1\nat=0\n"

@@ -5,7 +5,7 @@ use mathlib.Core.List.{List}
 use Rattle.pauli.specs.Letters.{Letter}
 use Rattle.sheet.specs.Text.{line}
 use Rattle.sheet.proofs.Untouched.{written-leaves}
-use Rattle.reporting.specs.Report.{correctionValue, correctionLine, reportText, writeReport}
+use Rattle.reporting.specs.Report.{correctionValue, correctionLine, writeReport}
 use Rattle.reporting.specs.Statements.{ReportRefusalsLeave, CorrectionsAreReported}
 
 pub report-refusals-leave : ReportRefusalsLeave

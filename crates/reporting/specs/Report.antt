@@ -13,7 +13,7 @@ use Rattle.sheet.specs.declared.Written.{Written}
 use Rattle.sheet.specs.Refusals.{values}
 use Rattle.sheet.specs.Record.{logicalCount, radius, claimAt}
 use Rattle.sheet.specs.Text.{line, decimal, After, written}
-use Rattle.sheet.specs.Reader.{Reader, Parsed, got, stop, done, _>>=_, readLine, readLines}
+use Rattle.sheet.specs.Reader.{Reader, Parsed, got, stop, done, _andThen_, readLine, readLines}
 use Rattle.stabilizer.specs.Canonical.{canonicalText}
 use Rattle.admission.specs.Admission.{codeFault}
 use Rattle.decoder.specs.Syndrome.{readSyndrome}
@@ -40,7 +40,7 @@ syndromeLines zero c at [] = got [] []
 syndromeLines zero c at (b ∷ s) = stop (Refusal.Syndrome at)
 syndromeLines (suc most) c at [] = got [] []
 syndromeLines (suc most) c at (b ∷ s) =
-    (do bits ← syndromeLine c at; later ← syndromeLines most c (at + 1); done (bits ∷ later)) (b ∷ s)
+    (syndromeLine c at andThen λ bits. syndromeLines most c (at + 1) andThen λ later. done (bits ∷ later)) (b ∷ s)
 
 unfoldable pub correctionValue : Option (List Letter) → List ℕ
 correctionValue none = bytes "none"

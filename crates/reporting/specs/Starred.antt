@@ -1,11 +1,8 @@
 -- 01, "Sheets at the edges": what a report reads and what it writes of the starred sheets A to L. proofs/Starred.antt proves every entry
 -- from the definitions.
 use mathlib.Core.List.{List, [], _∷_}
-use mathlib.Core.Path.{_≡_}
 use Prim.Native.String.{String, _++_}
-use Rattle.pauli.specs.Lists.{bytes}
 use Rattle.sheet.specs.Edges.{sheetA, sheetB, sheetC, sheetD, sheetE, sheetF, sheetG, sheetH, sheetI, sheetJ, sheetK, sheetL}
-use Rattle.reporting.specs.Report.{reportText}
 
 pub record Entry : Type 0 where
   pub input : String
@@ -37,7 +34,3 @@ starred =
       output = "n=7\nk=1\nd=3\nt=1\nh=+XIXIXIX\nh=+IXXIIXX\nh=+IIIXXXX\nh=+ZIZIZIZ\nh=+IZZIIZZ\nh=+IIIZZZZ\nc=IYIIIII\nc=none\n";
     }
     ∷ []
-
--- An entry is right: the report of its input is its output.
-abbrev pub Right : Entry → Type 0
-Right e = reportText (bytes (e .input)) ≡ bytes (e .output)

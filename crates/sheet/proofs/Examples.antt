@@ -10,7 +10,7 @@ use Rattle.pauli.specs.Letters.{I, X, Y, Z, plus, minus, signedRow, ofLetters}
 use Rattle.pauli.specs.declared.Pauli.{Pauli}
 use Rattle.pauli.specs.Lists.{bytes, allOf, anyOf}
 use Rattle.pauli.specs.Product.{identity}
-use Rattle.pauli.proofs.Table.{All, each}
+use Rattle.pauli.proofs.Table.{each}
 use Rattle.sheet.specs.declared.Code.{Code}
 use Rattle.sheet.specs.declared.Family.{Family}
 use Rattle.sheet.specs.declared.Lines.{Lines}
@@ -86,16 +86,9 @@ offForm =
     ∷ record { input = sheetA ⧺ "s=0001\n"; refusal = Refusal.Form 10 }
     ∷ []
 
-abbrev RightRefusal : Entry → Type 0
-RightRefusal e = readForm (bytes (e .input)) ≡ stop (e .refusal)
-
-all-refused : All RightRefusal offForm
-unfolding offForm opened
-all-refused =
-    (refl, (refl, (refl, (refl, (refl, (refl, (refl, (refl, (refl, (refl, (refl, (refl, (refl, (refl, (refl, (refl, (refl, (refl, (refl, (refl, tt))))))))))))))))))))
-
 off-form-refused : (e : Entry) → List·Memᴰ e offForm → readForm (bytes (e .input)) ≡ stop (e .refusal)
-off-form-refused = each RightRefusal offForm all-refused
+unfolding offForm opened
+off-form-refused = each (λ e. readForm (bytes (e .input))) (λ e. stop (e .refusal)) offForm refl
 
 -- 1 comes first, and at 4,097 bytes
 too-long : readForm (replicate 4097 lineFeed) ≡ stop Refusal.TooLong
@@ -177,10 +170,6 @@ numbers-a = (refl, refl, refl)
 numbers-24 : (logicalCount code24 ≡ 23) × (radius code24 ≡ 3) × (claimAt code24 ≡ 50)
 unfolding code24 opened
 numbers-24 = (refl, refl, refl)
-
-empty-numbers : (emptyCode .n ≡ 0) × (emptyCode .r ≡ 0) × (emptyCode .d ≡ 0)
-unfolding opened
-empty-numbers = (refl, refl, refl)
 
 -- The arrays have their room, in a record that was read and in the empty one.
 rooms : Sized codeA × Sized emptyCode

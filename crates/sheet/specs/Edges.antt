@@ -1,4 +1,4 @@
--- 01, "Sheets at the edges": the starred sheets A to L, without their `s=` lines, and the nine-qubit code.
+-- 01, "Sheets at the edges": the starred sheets A to L, without their `s=` lines, and three published codes.
 use Prim.Native.String.{String, _++_}
 
 -- The five-qubit code, with its distance, its logicals and its claimed lightest logical.
@@ -60,3 +60,14 @@ unfoldable pub nineQubits : String
 nineQubits =
     "n=9\nd=3\ng=+ZZIIIIIII\ng=+IZZIIIIII\ng=+IIIZZIIII\ng=+IIIIZZIII\ng=+IIIIIIZZI\ng=+IIIIIIIZZ\ng=+XXXXXXIII\ng=+IIIXXXXXX\n"
     ++ "x=+ZZZZZZZZZ\nz=+XXXXXXXXX\nw=XXXIIIIII\n"
+
+-- Document 000, table 3.3, all signs +, with d=3 and a w of ours.
+unfoldable pub eightQubits : String
+eightQubits =
+    "n=8\nd=3\ng=+XXXXXXXX\ng=+ZZZZZZZZ\ng=+IXIXYZYZ\ng=+IXZYIXZY\ng=+IYXZXZIY\nx=+XXIIIZIZ\nx=+XIXZIIZI\nx=+XIIZXZII\n"
+    ++ "z=+IZIZIZIZ\nz=+IIZZIIZZ\nz=+IIIIZZZZ\nw=IIIIIZXY\n"
+
+-- Document 000, table 3.5, all signs +, with d=2, a w of ours, and its last row left open: as printed it is +IXZZ.
+unfoldable pub fourQubits : String → String
+fourQubits lastZ =
+    "n=4\nd=2\ng=+XZZX\ng=+YXXY\nx=+XXXX\nx=+XIXZ\nz=+YZYI\nz=" ++ lastZ ++ "\nw=XIXI\n"

@@ -35,9 +35,9 @@ unfoldable pub continue : {A B : Type 0} → Parsed A → (A → Reader B) → P
 continue (got a s) next = next a s
 continue (stop refusal) next = stop refusal
 
-infixl 10 _>>=_
-abbrev pub _>>=_ : {A B : Type 0} → Reader A → (A → Reader B) → Reader B
-_>>=_ first next s = continue (first s) next
+infixr 10 _andThen_
+abbrev pub _andThen_ : {A B : Type 0} → Reader A → (A → Reader B) → Reader B
+_andThen_ first next s = continue (first s) next
 
 unfoldable pub begins : List ℕ → List ℕ → Bool
 begins [] s = true
@@ -89,11 +89,11 @@ inRange low high refusal m = cond (between low high m) (done m) (λ s. stop refu
 unfoldable pub qubitLine : Reader ℕ
 qubitLine s =
     (readLine "n=" (cond (eqb (getD s 3 0) lineFeed) 1 2) readNumber (Refusal.Form 1)
-    >>= inRange 2 24 (Refusal.QubitCount 1)) s
+    andThen inRange 2 24 (Refusal.QubitCount 1)) s
 
 -- 01: "`d=` one digit 1 to 9"; 2 at line 2, then 4 where d is not 1 to 7.
 unfoldable pub distanceLine : Reader ℕ
-distanceLine = readLine "d=" 1 readNumber (Refusal.Form 2) >>= inRange 1 7 (Refusal.DistanceRange 2)
+distanceLine = readLine "d=" 1 readNumber (Refusal.Form 2) andThen inRange 1 7 (Refusal.DistanceRange 2)
 
 -- 01: "a sign, then n letters"
 unfoldable pub rowLine : String → ℕ → ℕ → Reader Pauli
@@ -105,7 +105,7 @@ unfoldable pub generatorLines : ℕ → ℕ → ℕ → Reader (List Pauli)
 generatorLines zero n at s = cond (begins (bytes "g=") s) (stop (Refusal.GeneratorCount at)) (got [] s)
 generatorLines (suc left) n at s =
     cond (begins (bytes "g=") s)
-    ((do g ← rowLine "g=" n at; gs ← generatorLines left n (at + 1); done (g ∷ gs)) s)
+    ((rowLine "g=" n at andThen λ g. generatorLines left n (at + 1) andThen λ gs. done (g ∷ gs)) s)
     (got [] s)
 
 -- 01: 5 where the "first place does not begin `g=`".
@@ -116,10 +116,8 @@ allGeneratorLines n s =
 -- The k lines of the X or of the Z logicals, from the line `at` on.
 unfoldable pub logicalLines : ℕ → String → ℕ → ℕ → Reader (List Pauli)
 logicalLines zero key n at = done []
-logicalLines (suc k) key n at = do
-  l ← rowLine key n at
-  ls ← logicalLines k key n (at + 1)
-  done (l ∷ ls)
+logicalLines (suc k) key n at =
+    rowLine key n at andThen λ l. logicalLines k key n (at + 1) andThen λ ls. done (l ∷ ls)
 
 -- 01: "`w=`: n letters, no sign, a claimed lightest logical."
 unfoldable pub claimLine : ℕ → ℕ → Reader Pauli
@@ -130,19 +128,14 @@ unfoldable pub linesAfter : (n d : ℕ) → List Pauli → Reader Code
 linesAfter n d gs =
     let r = length gs in
     let k = n - r in
-    do
-      xs ← logicalLines k "x=" n (generatorsAt + r)
-      zs ← logicalLines k "z=" n (generatorsAt + r + k)
-      w ← claimLine n (generatorsAt + r + 2 * k)
-      done (codeOf n d gs xs zs w)
+    logicalLines k "x=" n (generatorsAt + r) andThen λ xs.
+    logicalLines k "z=" n (generatorsAt + r + k) andThen λ zs.
+    claimLine n (generatorsAt + r + 2 * k) andThen λ w.
+    done (codeOf n d gs xs zs w)
 
 -- The lines of a sheet, in order. What stands behind w is the rest.
 unfoldable pub sheetLines : Reader Code
-sheetLines = do
-  n ← qubitLine
-  d ← distanceLine
-  gs ← allGeneratorLines n
-  linesAfter n d gs
+sheetLines = qubitLine andThen λ n. distanceLine andThen λ d. allGeneratorLines n andThen λ gs. linesAfter n d gs
 
 -- 01: "Check 1 is first": 1 where the whole input has more than 4,096 bytes.
 unfoldable pub readLines : Reader Code
@@ -155,7 +148,7 @@ nothingBehind c (b ∷ s) = stop (Refusal.Form (claimAt c + 1))
 
 -- The form of a sheet read by itself.
 unfoldable pub readForm : Reader Code
-readForm = readLines >>= nothingBehind
+readForm = readLines andThen nothingBehind
 
 -- A reading as a call answers it: how many bytes were read and the record, or the refusal and the empty record.
 unfoldable pub answered : List ℕ → Parsed Code → LinesReading

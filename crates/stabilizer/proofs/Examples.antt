@@ -7,22 +7,26 @@ use Prim.Native.String.{String}
 use Rattle.pauli.specs.declared.Pauli.{Pauli}
 use Rattle.pauli.specs.Letters.{I, Z, ofLetters}
 use Rattle.pauli.specs.Lists.{bytes}
-use Rattle.pauli.specs.Product.{identity}
 use Rattle.sheet.specs.declared.Code.{Code}
 use Rattle.sheet.specs.declared.Family.{Family}
 use Rattle.sheet.specs.declared.Refusal.{Refusal}
 use Rattle.sheet.specs.declared.Written.{Written}
-use Rattle.sheet.specs.Reader.{readRow}
-use Rattle.sheet.specs.Record.{codeOf, emptyCode}
+use Rattle.sheet.specs.Edges.{eightQubits, sheetA}
+use Rattle.sheet.specs.Reader.{readRow, linesReading}
+use Rattle.sheet.specs.Record.{codeOf, generators}
 use Rattle.sheet.specs.Text.{untouched}
 use Rattle.stabilizer.specs.Canonical.{canonicalGenerators, writeCanonical}
-use Rattle.stabilizer.specs.Checks.{generatorFault}
+use Rattle.stabilizer.specs.Checks.{generatorFault, minusIdentity}
 use Rattle.stabilizer.specs.Group.{inGroupUpToPhase}
 use Rattle.stabilizer.specs.Opened.{opened}
 
--- Rows as they are written.
+-- A row as it is written; what is no row becomes -I.
+row : String → Pauli
+row text = Option·getD (readRow (bytes text)) minusIdentity
+
 rows : List String → List Pauli
-rows texts = map (λ t. Option·getD (readRow (bytes t)) identity) texts
+unfolding row
+rows texts = map row texts
 
 -- ---- 6 to 8
 
@@ -55,38 +59,33 @@ unfolding rows opened
 clash-first = refl
 
 -- "Document 000 table 3.3, all signs +: M1 to M5 pass 6 to 8."
-eightQubits : List Pauli
-unfolding rows
-eightQubits = rows ("+XXXXXXXX" ∷ "+ZZZZZZZZ" ∷ "+IXIXYZYZ" ∷ "+IXZYIXZY" ∷ "+IYXZXZIY" ∷ [])
+rowsOf : String → List Pauli
+rowsOf sheet = generators (linesReading (bytes sheet) .code)
 
-eight-qubits-pass : generatorFault eightQubits ≡ none
-unfolding eightQubits opened
+eight-qubits-pass : generatorFault (rowsOf eightQubits) ≡ none
+unfolding rowsOf opened
 eight-qubits-pass = refl
 
 -- ---- members
 
-fiveQubits : List Pauli
-unfolding rows
-fiveQubits = rows ("+XZZXI" ∷ "+IXZZX" ∷ "+XIXZZ" ∷ "+ZXIXZ" ∷ [])
-
--- the product of the first two rows, phase aside; and a logical operator
-member : inGroupUpToPhase fiveQubits (Option·getD (readRow (bytes "-XYIYX")) identity) ≡ true
-unfolding fiveQubits opened
+-- the product of A's first two rows, phase aside; and a logical operator
+member : inGroupUpToPhase (rowsOf sheetA) (row "-XYIYX") ≡ true
+unfolding rowsOf row opened
 member = refl
 
-not-member : inGroupUpToPhase fiveQubits (Option·getD (readRow (bytes "+XXXXX")) identity) ≡ false
-unfolding fiveQubits opened
+not-member : inGroupUpToPhase (rowsOf sheetA) (row "+XXXXX") ≡ false
+unfolding rowsOf row opened
 not-member = refl
 
 -- ---- canonical generators
 
 -- those of A, from its rows as they stand and in another order
-canonical-a : canonicalGenerators 5 fiveQubits ≡ rows ("+YZIZY" ∷ "+IXZZX" ∷ "+ZZXIX" ∷ "+ZIZYY" ∷ [])
-unfolding fiveQubits rows opened
+canonical-a : canonicalGenerators 5 (rowsOf sheetA) ≡ rows ("+YZIZY" ∷ "+IXZZX" ∷ "+ZZXIX" ∷ "+ZIZYY" ∷ [])
+unfolding rowsOf rows opened
 canonical-a = refl
 
-canonical-other-order : canonicalGenerators 5 (rows ("+ZXIXZ" ∷ "+IXZZX" ∷ "+XZZXI" ∷ "+XIXZZ" ∷ [])) ≡ canonicalGenerators 5 fiveQubits
-unfolding fiveQubits rows opened
+canonical-other-order : canonicalGenerators 5 (rows ("+ZXIXZ" ∷ "+IXZZX" ∷ "+XZZXI" ∷ "+XIXZZ" ∷ [])) ≡ canonicalGenerators 5 (rowsOf sheetA)
+unfolding rowsOf rows opened
 canonical-other-order = refl
 
 -- signs follow the product rule
@@ -99,8 +98,8 @@ canonical-z : canonicalGenerators 3 (rows ("+ZZI" ∷ "-IZZ" ∷ [])) ≡ rows (
 unfolding rows opened
 canonical-z = refl
 
-canonical-eight : canonicalGenerators 8 eightQubits ≡ rows ("+XZIYIYXZ" ∷ "+IXZYIXZY" ∷ "-IZXYZIYX" ∷ "-IIZZYYXX" ∷ "+ZZZZZZZZ" ∷ [])
-unfolding eightQubits rows opened
+canonical-eight : canonicalGenerators 8 (rowsOf eightQubits) ≡ rows ("+XZIYIYXZ" ∷ "+IXZYIXZY" ∷ "-IZXYZIYX" ∷ "-IIZZYYXX" ∷ "+ZZZZZZZZ" ∷ [])
+unfolding rowsOf rows opened
 canonical-eight = refl
 
 -- ---- the call, on the record of K with another generator
@@ -115,21 +114,27 @@ unfolding record2 opened
 written-six = refl
 
 -- three qubits, two generators
+record3 : List String → Code
+unfolding rows
+record3 generators = codeOf 3 1 (rows generators) (rows ("+IXI" ∷ [])) (rows ("+IZI" ∷ [])) (ofLetters (I ∷ Z ∷ I ∷ []))
+
 written-rows :
-    writeCanonical (codeOf 3 1 (rows ("+XIX" ∷ "+IIX" ∷ [])) (rows ("+IXI" ∷ [])) (rows ("+IZI" ∷ [])) (ofLetters (I ∷ Z ∷ I ∷ []))) (bytes "abcdefghijklmn")
-    ≡ record { answer = Written.Count 14; buffer = bytes "h=+XII\nh=+IIX\n" }
-unfolding rows opened
+    writeCanonical (record3 ("+XIX" ∷ "+IIX" ∷ [])) (bytes "abcdefghijklmn") ≡ record { answer = Written.Count 14; buffer = bytes "h=+XII\nh=+IIX\n" }
+unfolding record3 opened
 written-rows = refl
 
--- 17, 7 and 15 write nothing, 7 before 17 and 15 before 7
+-- 17, 7 and 15 write nothing; 7 comes before 17, and 15 before 7
 short : writeCanonical (record2 ("-ZZ" ∷ [])) (bytes "abcde") ≡ untouched (Written.Refused Refusal.ShortBuffer) (bytes "abcde")
 unfolding record2 opened
 short = refl
 
-faulty : writeCanonical (record2 ("-II" ∷ [])) [] ≡ untouched (Written.Refused (Refusal.MinusIdentity 3 Family.Generator)) []
-unfolding record2 opened
+faulty :
+    writeCanonical (record3 ("+ZIZ" ∷ "-ZIZ" ∷ [])) (bytes "abc") ≡ untouched (Written.Refused (Refusal.MinusIdentity 4 Family.Generator)) (bytes "abc")
+unfolding record3 opened
 faulty = refl
 
-outside : writeCanonical emptyCode (bytes "abc") ≡ untouched (Written.Refused Refusal.RecordLimits) (bytes "abc")
-unfolding opened
+outside :
+    writeCanonical (codeOf 2 8 (rows ("-II" ∷ [])) (rows ("+XX" ∷ [])) (rows ("+ZI" ∷ [])) (ofLetters (Z ∷ I ∷ []))) []
+    ≡ untouched (Written.Refused Refusal.RecordLimits) []
+unfolding rows opened
 outside = refl
