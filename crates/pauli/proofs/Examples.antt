@@ -34,10 +34,10 @@ y-squared : product (ofLetters (Y ∷ [])) (ofLetters (Y ∷ [])) ≡ identity
 unfolding opened
 y-squared = refl
 
--- X times Z is i^3 Y, and Z times X is i Y
+-- X times Z is i^3 Y, and Z times X is i Y: Y itself has phase 1.
 xz-zx :
-    (product (ofLetters (X ∷ [])) (ofLetters (Z ∷ [])) ≡ product (record { p = 3; a = 0; b = 0 }) (ofLetters (Y ∷ [])))
-    × (product (ofLetters (Z ∷ [])) (ofLetters (X ∷ [])) ≡ product (record { p = 1; a = 0; b = 0 }) (ofLetters (Y ∷ [])))
+    (product (ofLetters (X ∷ [])) (ofLetters (Z ∷ [])) ≡ record { p = 0; a = 1; b = 1 })
+    × (product (ofLetters (Z ∷ [])) (ofLetters (X ∷ [])) ≡ record { p = 2; a = 1; b = 1 })
 unfolding opened
 xz-zx = (refl, refl)
 

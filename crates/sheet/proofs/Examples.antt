@@ -171,6 +171,11 @@ numbers-24 : (logicalCount code24 ≡ 23) × (radius code24 ≡ 3) × (claimAt c
 unfolding code24 opened
 numbers-24 = (refl, refl, refl)
 
+-- The empty record has "all numbers 0".
+empty-numbers : (emptyCode .n ≡ 0) × (emptyCode .r ≡ 0) × (emptyCode .d ≡ 0)
+unfolding opened
+empty-numbers = (refl, refl, refl)
+
 -- The arrays have their room, in a record that was read and in the empty one.
 rooms : Sized codeA × Sized emptyCode
 unfolding codeA opened
