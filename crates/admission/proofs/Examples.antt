@@ -1,6 +1,7 @@
 -- Other sheets read by themselves, computed: published codes, and sheets with two faults, of which the first in the table of 01 is the answer.
 use mathlib.Core.List.{List, [], _∷_, List·Memᴰ}
 use mathlib.Core.Path.{_≡_, refl}
+use Prim.Native.String.{String}
 use Rattle.pauli.specs.Letters.{I, X, Y, Z, ofLetters}
 use Rattle.pauli.specs.Lists.{bytes}
 use Rattle.pauli.proofs.Table.{each}
@@ -12,7 +13,10 @@ use Rattle.admission.specs.declared.Admission.{Admission}
 use Rattle.admission.specs.Admission.{readSheet}
 use Rattle.admission.specs.Distance.{refutingPair}
 use Rattle.admission.specs.Opened.{opened}
-use Rattle.admission.specs.Starred.{Entry}
+
+record Entry : Type 0 where
+  sheet : String
+  answer : Admission
 
 others : List Entry
 others =

@@ -1,6 +1,5 @@
 pub mod Logicals
 pub mod Distance
 pub mod Admission
-pub mod Starred
 pub mod Opened
 pub mod Statements

@@ -4,8 +4,7 @@ use Rattle.stabilizer.specs.Opened.{opened as opened-stabilizer}
 use Rattle.admission.specs.Logicals.{logicals, familyAfter, detected, pairsWrongly, mispaired, detectedFault, pairingFault}
 use Rattle.admission.specs.Distance.{claimedWeightFault, claimedDetectedFault, claimedInGroupFault, isLogicalError, logicalErrorUpTo, firstLetters, otherLetters, refutingPair, distanceFault}
 use Rattle.admission.specs.Admission.{faultButDistance, codeFault, refusedReading, admitted, admissionRefusal, readingOf, checked, readSheet}
-use Rattle.admission.specs.Starred.{starred}
 
 unfoldable pub opened : Unit {0}
-unfolding logicals familyAfter detected pairsWrongly mispaired detectedFault pairingFault claimedWeightFault claimedDetectedFault claimedInGroupFault isLogicalError logicalErrorUpTo firstLetters otherLetters refutingPair distanceFault faultButDistance codeFault refusedReading admitted admissionRefusal readingOf checked readSheet starred opened-stabilizer
+unfolding logicals familyAfter detected pairsWrongly mispaired detectedFault pairingFault claimedWeightFault claimedDetectedFault claimedInGroupFault isLogicalError logicalErrorUpTo firstLetters otherLetters refutingPair distanceFault faultButDistance codeFault refusedReading admitted admissionRefusal readingOf checked readSheet opened-stabilizer
 opened = tt

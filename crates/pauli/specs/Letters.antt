@@ -41,13 +41,15 @@ unfoldable pub lettersOf : ℕ → Pauli → List Letter
 lettersOf n P = lettersAt n (P .a) (P .b)
 
 -- The masks of a string of letters.
+unfoldable pub maskOf : (Letter → ℕ) → List Letter → ℕ
+maskOf bit [] = 0
+maskOf bit (l ∷ ls) = bit l + 2 * maskOf bit ls
+
 unfoldable pub xMask : List Letter → ℕ
-xMask [] = 0
-xMask (l ∷ ls) = xBit l + 2 * xMask ls
+xMask ls = maskOf xBit ls
 
 unfoldable pub zMask : List Letter → ℕ
-zMask [] = 0
-zMask (l ∷ ls) = zBit l + 2 * zMask ls
+zMask ls = maskOf zBit ls
 
 pub data Sign : Type 0 where
   plus minus : Sign

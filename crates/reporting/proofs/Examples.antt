@@ -1,7 +1,7 @@
 -- Reports at the edges, computed: codes that tell right from nearly right, the largest n, faults in the `s=` lines, a short buffer.
 use mathlib.Core.List.{List, [], _∷_, _++_, map, List·Memᴰ}
 use mathlib.Core.Path.{_≡_, refl}
-use Prim.Native.String.{_++_ as _⧺_}
+use Prim.Native.String.{String, _++_ as _⧺_}
 use Prim.Native.Nat.{ℕ, zero, suc, _-_}
 use lib.ListN.{replicate}
 use Rattle.pauli.specs.Letters.{Letter, I, X, Z, plus, minus, signedRow, ofLetters}
@@ -16,7 +16,10 @@ use Rattle.sheet.specs.Text.{lineFeed, untouched}
 use Rattle.sheet.specs.Writer.{sheetText}
 use Rattle.reporting.specs.Opened.{opened}
 use Rattle.reporting.specs.Report.{reportText, writeReport}
-use Rattle.reporting.specs.Starred.{Entry}
+
+record Entry : Type 0 where
+  input : String
+  output : String
 
 -- Codes on which a wrong reading of 01 differs from the right one.
 others : List Entry

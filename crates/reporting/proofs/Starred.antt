@@ -1,13 +1,24 @@
--- The starred sheets, from the definitions: every entry of the table is right. The table is computed. Assumes nothing.
+-- The starred sheets, from the definitions: every entry of the table is right, the answer of the sheet read by itself and the bytes of its report.
+-- The table is computed. Assumes nothing.
 use mathlib.Core.List.{List·Memᴰ}
 use mathlib.Core.Path.{_≡_, refl}
+use Prim.Native.String.{_++_}
 use Rattle.pauli.specs.Lists.{bytes}
 use Rattle.pauli.proofs.Table.{each}
+use Rattle.sheet.specs.Starred.{Entry, starred}
+use Rattle.admission.specs.Admission.{admissionRefusal, readSheet}
+use Rattle.admission.proofs.Starred.{starred-answers}
 use Rattle.reporting.specs.Opened.{opened}
 use Rattle.reporting.specs.Report.{reportText}
-use Rattle.reporting.specs.Starred.{Entry, starred}
 
--- The theorem: of every starred sheet the report is what 01 says.
-pub starred-right : (e : Entry) → List·Memᴰ e starred → reportText (bytes (e .input)) ≡ bytes (e .output)
+pub record Right (e : Entry) : Type 0 where
+  pub answer : admissionRefusal (readSheet (bytes (e .sheet)) .answer) ≡ e .refusal
+  pub report : reportText (bytes (e .sheet ++ e .behind)) ≡ bytes (e .report)
+
+starred-reports : (e : Entry) → List·Memᴰ e starred → reportText (bytes (e .sheet ++ e .behind)) ≡ bytes (e .report)
 unfolding opened
-starred-right = each (λ e. reportText (bytes (e .input))) (λ e. bytes (e .output)) starred refl
+starred-reports = each (λ e. reportText (bytes (e .sheet ++ e .behind))) (λ e. bytes (e .report)) starred refl
+
+-- The theorem: every starred sheet has the answer and the report that 01 gives it.
+pub starred-right : (e : Entry) → List·Memᴰ e starred → Right e
+starred-right e m = record { answer = starred-answers e m; report = starred-reports e m }

@@ -1,4 +1,3 @@
 pub mod Report
-pub mod Starred
 pub mod Opened
 pub mod Statements

@@ -2,8 +2,7 @@
 -- `unfolding opened` unfolds all that the line below names.
 use Rattle.decoder.specs.Opened.{opened as opened-decoder}
 use Rattle.reporting.specs.Report.{errorsText, refusalText, syndromeLine, syndromeLines, correctionValue, correctionLine, codeText, reportOfSyndromes, reportOfCode, reportOfLines, reportText, writeReport}
-use Rattle.reporting.specs.Starred.{syndromes, reportA, starred}
 
 unfoldable pub opened : Unit {0}
-unfolding errorsText refusalText syndromeLine syndromeLines correctionValue correctionLine codeText reportOfSyndromes reportOfCode reportOfLines reportText writeReport syndromes reportA starred opened-decoder
+unfolding errorsText refusalText syndromeLine syndromeLines correctionValue correctionLine codeText reportOfSyndromes reportOfCode reportOfLines reportText writeReport opened-decoder
 opened = tt

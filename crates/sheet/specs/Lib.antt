@@ -4,5 +4,6 @@ pub mod Text
 pub mod Reader
 pub mod Writer
 pub mod Edges
+pub mod Starred
 pub mod Opened
 pub mod Statements
