@@ -8,7 +8,9 @@ use lib.Dec.{eqb}
 use Rattle.pauli.specs.declared.Pauli.{Pauli}
 use Rattle.pauli.specs.Lists.{anyOf, allOf, firstOf}
 use Rattle.pauli.specs.Product.{commutes, anticommutes, weight}
-use Rattle.pauli.specs.Letters.{Letter, I, ofLetters}
+use Rattle.pauli.specs.declared.Letter.{Letter}
+use Rattle.pauli.specs.declared.Letter.the-variants.{I}
+use Rattle.pauli.specs.Letters.{ofLetters}
 use Rattle.pauli.specs.Order.{letterWeight, weightOf, stringsUpTo}
 use Rattle.sheet.specs.declared.Code.{Code}
 use Rattle.sheet.specs.declared.ErrorPair.{ErrorPair}

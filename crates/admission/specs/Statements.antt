@@ -6,7 +6,8 @@ use mathlib.Core.Option.{none, some}
 use mathlib.Core.Path.{_≡_}
 use Prim.Native.Nat.{ℕ, _≤_}
 use lib.ListN.{length}
-use Rattle.pauli.specs.Letters.{Letter, ofLetters}
+use Rattle.pauli.specs.declared.Letter.{Letter}
+use Rattle.pauli.specs.Letters.{ofLetters}
 use Rattle.pauli.specs.Order.{weightOf, Earlier}
 use Rattle.sheet.specs.declared.Code.{Code}
 use Rattle.sheet.specs.declared.Refusal.{Refusal}

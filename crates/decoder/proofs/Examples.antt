@@ -2,7 +2,8 @@
 use mathlib.Core.List.{[], _∷_, map}
 use mathlib.Core.Path.{_≡_, refl}
 use Prim.Native.Nat.{_+_, _^_}
-use Rattle.pauli.specs.Letters.{I, X, Z, ofLetters}
+use Rattle.pauli.specs.declared.Letter.the-variants.{I, X, Z}
+use Rattle.pauli.specs.Letters.{ofLetters}
 use Rattle.pauli.specs.Lists.{bytes}
 use Rattle.sheet.specs.declared.Code.{Code}
 use Rattle.sheet.specs.declared.Refusal.{Refusal}

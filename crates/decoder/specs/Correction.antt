@@ -4,7 +4,8 @@ use mathlib.Core.List.{List, map}
 use mathlib.Core.Option.{Option, none, some, bind}
 use Prim.Native.Nat.{ℕ}
 use Rattle.pauli.specs.Lists.{firstOf}
-use Rattle.pauli.specs.Letters.{Letter, ofLetters, letterByte}
+use Rattle.pauli.specs.declared.Letter.{Letter}
+use Rattle.pauli.specs.Letters.{ofLetters, letterByte}
 use Rattle.pauli.specs.Order.{stringsUpTo}
 use Rattle.sheet.specs.declared.Code.{Code}
 use Rattle.sheet.specs.declared.Refusal.{Refusal}

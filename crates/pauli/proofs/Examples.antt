@@ -7,7 +7,10 @@ use mathlib.Core.Option.{none, some}
 use lib.Dec.{lit<, leb}
 use lib.ListN.{length, replicate}
 use Prim.Native.Nat.{_^_, _-_}
-use Rattle.pauli.specs.Letters.{Letter, I, X, Y, Z, plus, minus, signedRow, ofLetters, lettersOf, isSignedRow, readLetter, readSign, rowText}
+use Rattle.pauli.specs.declared.Letter.{Letter}
+use Rattle.pauli.specs.declared.Letter.the-variants.{I, X, Y, Z}
+use Rattle.pauli.specs.declared.Sign.the-variants.{Plus, Minus}
+use Rattle.pauli.specs.Letters.{signedRow, ofLetters, lettersOf, isSignedRow, readLetter, readSign, rowText}
 use Rattle.pauli.specs.Lists.{firstOf, anyOf, allOf, bytes}
 use Rattle.pauli.specs.Masks.{bits}
 use Rattle.pauli.specs.Opened.{opened}
@@ -42,7 +45,7 @@ unfolding opened
 xz-zx = (refl, refl)
 
 -- "XX times ZZ .. is -YY"
-xx-zz : product (ofLetters (X ∷ X ∷ [])) (ofLetters (Z ∷ Z ∷ [])) ≡ signedRow minus (Y ∷ Y ∷ [])
+xx-zz : product (ofLetters (X ∷ X ∷ [])) (ofLetters (Z ∷ Z ∷ [])) ≡ signedRow Minus (Y ∷ Y ∷ [])
 unfolding opened
 xx-zz = refl
 
@@ -67,13 +70,13 @@ bits-lowest-first : bits 5 12 ≡ 0 ∷ 0 ∷ 1 ∷ 1 ∷ 0 ∷ []
 unfolding opened
 bits-lowest-first = refl
 
-texts : (rowText 4 (signedRow minus ixyz) ≡ bytes "-IXYZ") × (rowText 4 (signedRow plus ixyz) ≡ bytes "+IXYZ")
+texts : (rowText 4 (signedRow Minus ixyz) ≡ bytes "-IXYZ") × (rowText 4 (signedRow Plus ixyz) ≡ bytes "+IXYZ")
 unfolding ixyz opened
 texts = (refl, refl)
 
 bytes-read :
     (map readLetter (bytes "IXYZx.") ≡ some I ∷ some X ∷ some Y ∷ some Z ∷ none ∷ none ∷ [])
-    × (map readSign (bytes "+- ") ≡ some plus ∷ some minus ∷ none ∷ [])
+    × (map readSign (bytes "+- ") ≡ some Plus ∷ some Minus ∷ none ∷ [])
 unfolding opened
 bytes-read = (refl, refl)
 
@@ -92,7 +95,7 @@ signed-rows = refl
 
 -- Two Paulis are the same, phase aside, where both masks are.
 masks-compared :
-    map (λ s. sameMasks (signedRow minus (X ∷ Z ∷ [])) (ofLetters s))
+    map (λ s. sameMasks (signedRow Minus (X ∷ Z ∷ [])) (ofLetters s))
     ((X ∷ Z ∷ []) ∷ (Z ∷ X ∷ []) ∷ (X ∷ I ∷ []) ∷ (I ∷ Z ∷ []) ∷ (Y ∷ Z ∷ []) ∷ (X ∷ Y ∷ []) ∷ [])
     ≡ true ∷ false ∷ false ∷ false ∷ false ∷ false ∷ []
 unfolding opened
@@ -134,6 +137,6 @@ y24 : ofLetters (replicate 24 Y) ≡ record { p = 0; a = 2 ^ 24 - 1; b = 2 ^ 24 
 unfolding opened
 y24 = refl
 
-letters24 : lettersOf 24 (signedRow minus (replicate 24 Z)) ≡ replicate 24 Z
+letters24 : lettersOf 24 (signedRow Minus (replicate 24 Z)) ≡ replicate 24 Z
 unfolding opened
 letters24 = refl

@@ -5,12 +5,13 @@ use mathlib.Core.Option.{Option}
 use Prim.Native.Nat.{ℕ, zero, suc, _+_, _*_, _/_, _%_}
 use Prim.Native.Char.{code}
 use Rattle.pauli.specs.declared.Pauli.{Pauli}
+use Rattle.pauli.specs.declared.Letter.{Letter}
+use Rattle.pauli.specs.declared.Letter.the-variants.{I, X, Y, Z}
+use Rattle.pauli.specs.declared.Sign.{Sign}
+use Rattle.pauli.specs.declared.Sign.the-variants.{Plus, Minus}
 use Rattle.pauli.specs.Lists.{readByte}
 use Rattle.pauli.specs.Masks.{dot}
 use Rattle.pauli.specs.Product.{hasPhase}
-
-pub data Letter : Type 0 where
-  I X Y Z : Letter
 
 -- 01: "A letter is chosen by its mask bits: I 00, X 10, Z 01, Y 11, where Y = iXZ."
 unfoldable pub letterAt : ℕ → ℕ → Letter
@@ -51,12 +52,9 @@ xMask ls = maskOf xBit ls
 unfoldable pub zMask : List Letter → ℕ
 zMask ls = maskOf zBit ls
 
-pub data Sign : Type 0 where
-  plus minus : Sign
-
 unfoldable pub signPhase : Sign → ℕ
-signPhase plus = 0
-signPhase minus = 2
+signPhase Plus = 0
+signPhase Minus = 2
 
 -- 01: "A signed row, + or -, has p = a·b (modulo 4), plus 2 for -."
 unfoldable pub rowPhase : Sign → ℕ → ℕ → ℕ
@@ -67,17 +65,17 @@ signedRow s ls = record { p = rowPhase s (xMask ls) (zMask ls); a = xMask ls; b 
 
 -- A string of letters as a Pauli, with sign +.
 unfoldable pub ofLetters : List Letter → Pauli
-ofLetters ls = signedRow plus ls
+ofLetters ls = signedRow Plus ls
 
 unfoldable pub hasSign : Sign → Pauli → Bool
 hasSign s P = hasPhase (rowPhase s (P .a) (P .b)) P
 
 unfoldable pub isSignedRow : Pauli → Bool
-isSignedRow P = hasSign plus P || hasSign minus P
+isSignedRow P = hasSign Plus P || hasSign Minus P
 
 -- The sign of a signed row.
 unfoldable pub signOf : Pauli → Sign
-signOf P = cond (hasSign plus P) plus minus
+signOf P = cond (hasSign Plus P) Plus Minus
 
 -- Letters and signs as bytes.
 unfoldable pub letterByte : Letter → ℕ
@@ -90,11 +88,11 @@ unfoldable pub readLetter : ℕ → Option Letter
 readLetter = readByte letterByte (I ∷ X ∷ Y ∷ Z ∷ [])
 
 unfoldable pub signByte : Sign → ℕ
-signByte plus = code "+"
-signByte minus = code "-"
+signByte Plus = code "+"
+signByte Minus = code "-"
 
 unfoldable pub readSign : ℕ → Option Sign
-readSign = readByte signByte (plus ∷ minus ∷ [])
+readSign = readByte signByte (Plus ∷ Minus ∷ [])
 
 -- The n letters of a Pauli as bytes, as w and a correction are written, and with the sign first, as a row is.
 unfoldable pub letterText : ℕ → Pauli → List ℕ

@@ -7,3 +7,17 @@ pub struct Pauli {
     pub a: u32,
     pub b: u32,
 }
+
+// A letter of a qubit.
+pub enum Letter {
+    I,
+    X,
+    Y,
+    Z,
+}
+
+// The sign of a row.
+pub enum Sign {
+    Plus,
+    Minus,
+}

@@ -4,7 +4,10 @@ use mathlib.Core.Path.{_≡_, refl}
 use Prim.Native.String.{String, _++_ as _⧺_}
 use Prim.Native.Nat.{ℕ, zero, suc, _-_}
 use lib.ListN.{replicate}
-use Rattle.pauli.specs.Letters.{Letter, I, X, Z, plus, minus, signedRow, ofLetters}
+use Rattle.pauli.specs.declared.Letter.{Letter}
+use Rattle.pauli.specs.declared.Letter.the-variants.{I, X, Z}
+use Rattle.pauli.specs.declared.Sign.the-variants.{Plus, Minus}
+use Rattle.pauli.specs.Letters.{signedRow, ofLetters}
 use Rattle.pauli.specs.Lists.{bytes}
 use Rattle.pauli.proofs.Table.{each}
 use Rattle.sheet.specs.declared.Code.{Code}
@@ -78,8 +81,8 @@ letterAtOther first other j = first ∷ replicate j I ++ other ∷ replicate (22
 
 code24 : Code
 code24 =
-    codeOf 24 1 (signedRow minus (replicate 24 Z) ∷ []) (map (λ j. signedRow plus (letterAtOther X X j)) (range 0 23))
-    (map (λ j. signedRow plus (letterAtOther I Z j)) (range 0 23)) (ofLetters (Z ∷ replicate 23 I))
+    codeOf 24 1 (signedRow Minus (replicate 24 Z) ∷ []) (map (λ j. signedRow Plus (letterAtOther X X j)) (range 0 23))
+    (map (λ j. signedRow Plus (letterAtOther I Z j)) (range 0 23)) (ofLetters (Z ∷ replicate 23 I))
 
 report24 :
     reportText (sheetText code24 ++ bytes "s=0\ns=1\n")

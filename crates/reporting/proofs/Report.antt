@@ -2,7 +2,7 @@
 use mathlib.Core.Option.{Option}
 use mathlib.Core.Path.{ap}
 use mathlib.Core.List.{List}
-use Rattle.pauli.specs.Letters.{Letter}
+use Rattle.pauli.specs.declared.Letter.{Letter}
 use Rattle.sheet.specs.Text.{line}
 use Rattle.sheet.proofs.Untouched.{written-leaves}
 use Rattle.reporting.specs.Report.{correctionValue, correctionLine, writeReport}

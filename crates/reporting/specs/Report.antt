@@ -5,7 +5,8 @@ use mathlib.Core.Option.{Option, none, some}
 use Prim.Native.Nat.{ℕ, zero, suc, _+_}
 use lib.ListN.{length}
 use Rattle.pauli.specs.Lists.{bytes}
-use Rattle.pauli.specs.Letters.{Letter, letterByte, letterText}
+use Rattle.pauli.specs.declared.Letter.{Letter}
+use Rattle.pauli.specs.Letters.{letterByte, letterText}
 use Rattle.sheet.specs.declared.Code.{Code}
 use Rattle.sheet.specs.declared.ErrorPair.{ErrorPair}
 use Rattle.sheet.specs.declared.Refusal.{Refusal}

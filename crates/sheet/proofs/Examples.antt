@@ -6,7 +6,9 @@ use Prim.Native.Nat.{ℕ, zero, suc, _+_}
 use Prim.Native.String.{String, _++_ as _⧺_}
 use lib.Dec.{eqb}
 use lib.ListN.{length, take, replicate}
-use Rattle.pauli.specs.Letters.{I, X, Y, Z, plus, minus, signedRow, ofLetters}
+use Rattle.pauli.specs.declared.Letter.the-variants.{I, X, Y, Z}
+use Rattle.pauli.specs.declared.Sign.the-variants.{Plus, Minus}
+use Rattle.pauli.specs.Letters.{signedRow, ofLetters}
 use Rattle.pauli.specs.declared.Pauli.{Pauli}
 use Rattle.pauli.specs.Lists.{bytes, allOf, anyOf}
 use Rattle.pauli.specs.Product.{identity}
@@ -131,9 +133,9 @@ every-cut-refused = refl
 codeA : Code
 codeA =
     codeOf 5 3
-    (signedRow plus (X ∷ Z ∷ Z ∷ X ∷ I ∷ []) ∷ signedRow plus (I ∷ X ∷ Z ∷ Z ∷ X ∷ [])
-    ∷ signedRow plus (X ∷ I ∷ X ∷ Z ∷ Z ∷ []) ∷ signedRow plus (Z ∷ X ∷ I ∷ X ∷ Z ∷ []) ∷ [])
-    (signedRow plus (replicate 5 X) ∷ []) (signedRow plus (replicate 5 Z) ∷ [])
+    (signedRow Plus (X ∷ Z ∷ Z ∷ X ∷ I ∷ []) ∷ signedRow Plus (I ∷ X ∷ Z ∷ Z ∷ X ∷ [])
+    ∷ signedRow Plus (X ∷ I ∷ X ∷ Z ∷ Z ∷ []) ∷ signedRow Plus (Z ∷ X ∷ I ∷ X ∷ Z ∷ []) ∷ [])
+    (signedRow Plus (replicate 5 X) ∷ []) (signedRow Plus (replicate 5 Z) ∷ [])
     (ofLetters (I ∷ Y ∷ Y ∷ I ∷ X ∷ []))
 
 read-a : readForm (bytes sheetA) ≡ got codeA []
@@ -147,8 +149,8 @@ written-a = refl
 -- The longest sheet: n = 24, r = 1.
 code24 : Code
 code24 =
-    codeOf 24 7 (signedRow minus (replicate 24 Z) ∷ []) (replicate 23 (signedRow plus (replicate 24 X)))
-    (replicate 23 (signedRow minus (replicate 24 Z))) (ofLetters (replicate 24 X))
+    codeOf 24 7 (signedRow Minus (replicate 24 Z) ∷ []) (replicate 23 (signedRow Plus (replicate 24 X)))
+    (replicate 23 (signedRow Minus (replicate 24 Z))) (ofLetters (replicate 24 X))
 
 longest : length (sheetText code24) ≡ 1352
 unfolding code24 opened
@@ -214,7 +216,7 @@ radii = refl
 inside : List Code
 inside =
     codeK 2 1 zz xx zi zi ∷ codeK 2 7 zz xx zi zi ∷ codeK 24 1 zz xx zi zi
-    ∷ codeK 2 1 (signedRow minus (Z ∷ Z ∷ [])) xx (record { p = 4; a = 0; b = 1 }) (record { p = 8; a = 0; b = 1 }) ∷ []
+    ∷ codeK 2 1 (signedRow Minus (Z ∷ Z ∷ [])) xx (record { p = 4; a = 0; b = 1 }) (record { p = 8; a = 0; b = 1 }) ∷ []
 
 outside : List Code
 outside =
@@ -225,7 +227,7 @@ outside =
     ∷ codeK 2 1 zz xx zi above-a ∷ codeK 2 1 zz xx zi above-b
     ∷ codeK 2 1 turned xx zi zi ∷ codeK 2 1 zz turned zi zi ∷ codeK 2 1 zz xx turned zi
     -- w has sign -
-    ∷ codeK 2 1 zz xx zi (signedRow minus (Z ∷ I ∷ []))
+    ∷ codeK 2 1 zz xx zi (signedRow Minus (Z ∷ I ∷ []))
     -- an unused row is not I: of x, of z, of g
     ∷ codeOf 2 1 (zz ∷ []) (xx ∷ xx ∷ []) (zi ∷ []) zi ∷ codeOf 2 1 (zz ∷ []) (xx ∷ []) (zi ∷ zi ∷ []) zi
     ∷ record { n = 2; r = 1; d = 1; g = filled 32 (zz ∷ zz ∷ []); x = filled 24 (xx ∷ []); z = filled 24 (zi ∷ []); w = zi }

@@ -8,7 +8,8 @@ use lib.ListN.{length, take, drop, replicate}
 use Rattle.pauli.specs.declared.Pauli.{Pauli}
 use Rattle.pauli.specs.Lists.{allOf}
 use Rattle.pauli.specs.Product.{identity, samePauli}
-use Rattle.pauli.specs.Letters.{plus, hasSign, isSignedRow}
+use Rattle.pauli.specs.declared.Sign.the-variants.{Plus}
+use Rattle.pauli.specs.Letters.{hasSign, isSignedRow}
 use Rattle.sheet.specs.declared.Code.{Code}
 use Rattle.sheet.specs.declared.Refusal.{Refusal}
 use Rattle.sheet.specs.Refusals.{refuseIf}
@@ -67,7 +68,7 @@ isRow n P = onQubits n P && isSignedRow P
 
 -- 01: "no mask bit above qubit n", "w with sign +"
 unfoldable pub isClaim : ℕ → Pauli → Bool
-isClaim n P = onQubits n P && hasSign plus P
+isClaim n P = onQubits n P && hasSign Plus P
 
 -- The first m rows are rows of n qubits. 01: "unused rows +I".
 unfoldable pub areRows : ℕ → ℕ → List Pauli → Bool

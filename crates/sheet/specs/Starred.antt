@@ -3,7 +3,8 @@
 use mathlib.Core.List.{List, [], _∷_}
 use mathlib.Core.Option.{Option, none, some}
 use Prim.Native.String.{String}
-use Rattle.pauli.specs.Letters.{I, X, Y, ofLetters}
+use Rattle.pauli.specs.declared.Letter.the-variants.{I, X, Y}
+use Rattle.pauli.specs.Letters.{ofLetters}
 use Rattle.sheet.specs.declared.Family.{Family}
 use Rattle.sheet.specs.declared.Refusal.{Refusal}
 use Rattle.sheet.specs.Edges.{sheetA, sheetB, sheetC, sheetD, sheetE, sheetF, sheetG, sheetH, sheetI, sheetJ, sheetK, sheetL}

@@ -5,7 +5,8 @@ use mathlib.Core.Option.{none, some, Option·getD}
 use mathlib.Core.Path.{_≡_, refl}
 use Prim.Native.String.{String}
 use Rattle.pauli.specs.declared.Pauli.{Pauli}
-use Rattle.pauli.specs.Letters.{I, Z, ofLetters}
+use Rattle.pauli.specs.declared.Letter.the-variants.{I, Z}
+use Rattle.pauli.specs.Letters.{ofLetters}
 use Rattle.pauli.specs.Lists.{bytes}
 use Rattle.sheet.specs.declared.Code.{Code}
 use Rattle.sheet.specs.declared.Family.{Family}
