@@ -7,13 +7,14 @@ use Rattle.pauli.specs.Lists.{firstOf}
 use Rattle.pauli.specs.declared.Letter.{Letter}
 use Rattle.pauli.specs.Letters.{ofLetters, letterByte}
 use Rattle.pauli.specs.Order.{stringsUpTo}
+use Rattle.pauli.specs.Syndrome.{syndrome}
 use Rattle.sheet.specs.declared.Code.{Code}
 use Rattle.sheet.specs.declared.Refusal.{Refusal}
 use Rattle.sheet.specs.Record.{generators, radius, limitsFault}
 use Rattle.sheet.specs.Refusals.{_then_}
 use Rattle.sheet.specs.Text.{After, laid, untouched, guarded, roomFault}
 use Rattle.decoder.specs.declared.Decoded.{Decoded}
-use Rattle.decoder.specs.Syndrome.{syndrome, sameBits, readSyndrome, syndromeFault}
+use Rattle.decoder.specs.Syndrome.{sameBits, readSyndrome, syndromeFault}
 
 unfoldable pub hasSyndrome : Code → List Bool → List Letter → Bool
 hasSyndrome c bits s = sameBits (syndrome (generators c) (ofLetters s)) bits

@@ -11,6 +11,7 @@ use Rattle.pauli.specs.declared.Letter.{Letter}
 use Rattle.pauli.specs.Letters.{ofLetters, letterByte}
 use Rattle.pauli.specs.Order.{weightOf, Earlier}
 use Rattle.pauli.specs.Product.{product, weight}
+use Rattle.pauli.specs.Syndrome.{syndrome}
 use Rattle.sheet.specs.declared.Code.{Code}
 use Rattle.sheet.specs.declared.ErrorPair.{ErrorPair}
 use Rattle.sheet.specs.declared.Refusal.{Refusal}
@@ -22,7 +23,7 @@ use Rattle.stabilizer.specs.Group.{InGroupUpToPhase}
 use Rattle.admission.specs.declared.Admission.{Admission}
 use Rattle.admission.specs.Admission.{AdmissibleButForDistance, admissionRefusal, admitted, readSheet}
 use Rattle.decoder.specs.declared.Decoded.{Decoded}
-use Rattle.decoder.specs.Syndrome.{syndrome, syndromeText, syndromeRefusal, writeSyndrome}
+use Rattle.decoder.specs.Syndrome.{syndromeText, syndromeRefusal, writeSyndrome}
 use Rattle.decoder.specs.Correction.{correction, decode, decodedRefusal}
 
 -- ---- the syndrome

@@ -8,7 +8,7 @@ use lib.Dec.{eqb}
 use lib.ListN.{length}
 use Rattle.pauli.specs.declared.Pauli.{Pauli}
 use Rattle.pauli.specs.Lists.{readByte}
-use Rattle.pauli.specs.Product.{anticommutes}
+use Rattle.pauli.specs.Syndrome.{syndrome}
 use Rattle.sheet.specs.declared.Code.{Code}
 use Rattle.sheet.specs.declared.Refusal.{Refusal}
 use Rattle.sheet.specs.Record.{generators, limitsFault}
@@ -16,11 +16,6 @@ use Rattle.sheet.specs.Refusals.{refuseIf, _then_}
 use Rattle.sheet.specs.Reader.{readEach}
 use Rattle.sheet.specs.Text.{After, laid, guarded, roomFault}
 use Rattle.decoder.specs.declared.SyndromeAnswer.{SyndromeAnswer}
-
--- 01: "The syndrome of a Pauli has one bit for each g row, in sheet order: 1 if they anticommute; the Pauli's mask bits above qubit n
--- change nothing": a row of a record within limits has none there.
-unfoldable pub syndrome : List Pauli → Pauli → List Bool
-syndrome rows P = map (λ g. anticommutes g P) rows
 
 unfoldable pub sameBits : List Bool → List Bool → Bool
 sameBits [] [] = true

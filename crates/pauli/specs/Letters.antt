@@ -1,14 +1,16 @@
 -- Letters and signs: how a Pauli is written.
 use mathlib.Core.Bool.{Bool, cond, _||_}
 use mathlib.Core.List.{List, [], _∷_, map}
-use mathlib.Core.Option.{Option}
-use Prim.Native.Nat.{ℕ, zero, suc, _+_, _*_, _/_, _%_}
+use mathlib.Core.Option.{Option, none, some}
+use Prim.Native.Nat.{ℕ, zero, suc, _+_, _*_, _/_, _%_, _^_}
 use Prim.Native.Char.{code}
 use Rattle.pauli.specs.declared.Pauli.{Pauli}
 use Rattle.pauli.specs.declared.Letter.{Letter}
 use Rattle.pauli.specs.declared.Letter.the-variants.{I, X, Y, Z}
 use Rattle.pauli.specs.declared.Sign.{Sign}
 use Rattle.pauli.specs.declared.Sign.the-variants.{Plus, Minus}
+use Rattle.pauli.specs.declared.LetterRead.{LetterRead}
+use Rattle.pauli.specs.declared.SignRead.{SignRead}
 use Rattle.pauli.specs.Lists.{readByte}
 use Rattle.pauli.specs.Masks.{dot}
 use Rattle.pauli.specs.Product.{hasPhase}
@@ -40,6 +42,10 @@ lettersAt (suc n) a b = letterAt (a % 2) (b % 2) ∷ lettersAt n (a / 2) (b / 2)
 
 unfoldable pub lettersOf : ℕ → Pauli → List Letter
 lettersOf n P = lettersAt n (P .a) (P .b)
+
+-- The letter of a Pauli at one qubit. Places count from 0, as bits do: place j is qubit j + 1.
+unfoldable pub letterOn : ℕ → Pauli → Letter
+letterOn j P = letterAt (P .a / 2 ^ j % 2) (P .b / 2 ^ j % 2)
 
 -- The masks of a string of letters.
 unfoldable pub maskOf : (Letter → ℕ) → List Letter → ℕ
@@ -93,6 +99,15 @@ signByte Minus = code "-"
 
 unfoldable pub readSign : ℕ → Option Sign
 readSign = readByte signByte (Plus ∷ Minus ∷ [])
+
+-- What a byte was read as, where it was read as one.
+unfoldable pub letterIn : LetterRead → Option Letter
+letterIn (LetterRead.Got l) = some l
+letterIn LetterRead.NotALetter = none
+
+unfoldable pub signIn : SignRead → Option Sign
+signIn (SignRead.Got s) = some s
+signIn SignRead.NotASign = none
 
 -- The n letters of a Pauli as bytes, as w and a correction are written, and with the sign first, as a row is.
 unfoldable pub letterText : ℕ → Pauli → List ℕ

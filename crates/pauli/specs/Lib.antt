@@ -1,6 +1,7 @@
 pub mod Lists
 pub mod Masks
 pub mod Product
+pub mod Syndrome
 pub mod Letters
 pub mod Order
 pub mod Opened

@@ -15,9 +15,19 @@ unfoldable pub product : Pauli → Pauli → Pauli
 product P Q =
     record { p = (P .p + Q .p + 2 * dot (P .b) (Q .a)) % 4; a = bitXor (P .a) (Q .a); b = bitXor (P .b) (Q .b) }
 
--- 01: "Two Paulis commute if a·b' + a'·b is even, else they anticommute."
+-- -P, and the Pauli whose product with P is I.
+unfoldable pub negated : Pauli → Pauli
+negated P = record { p = (P .p + 2) % 4; a = P .a; b = P .b }
+
+unfoldable pub inverse : Pauli → Pauli
+inverse P = record { p = (3 * P .p + 2 * dot (P .b) (P .a)) % 4; a = P .a; b = P .b }
+
+-- 01: "Two Paulis commute if a·b' + a'·b is even, else they anticommute." The remainder by 2 of that sum is their symplectic product.
+unfoldable pub symplectic : Pauli → Pauli → ℕ
+symplectic P Q = (dot (P .a) (Q .b) + dot (Q .a) (P .b)) % 2
+
 unfoldable pub commutes : Pauli → Pauli → Bool
-commutes P Q = eqb ((dot (P .a) (Q .b) + dot (Q .a) (P .b)) % 2) 0
+commutes P Q = eqb (symplectic P Q) 0
 
 unfoldable pub anticommutes : Pauli → Pauli → Bool
 anticommutes P Q = not (commutes P Q)
@@ -30,7 +40,10 @@ weight P = countOnes (bitOr (P .a) (P .b))
 unfoldable pub sameMasks : Pauli → Pauli → Bool
 sameMasks P Q = eqb (P .a) (Q .a) && eqb (P .b) (Q .b)
 
--- 01: "A phase is read modulo 4."
+-- 01: "A phase is read modulo 4." The same Pauli with its phase 0 to 3.
+unfoldable pub modulo4 : Pauli → Pauli
+modulo4 P = record { p = P .p % 4; a = P .a; b = P .b }
+
 unfoldable pub hasPhase : ℕ → Pauli → Bool
 hasPhase q P = eqb (P .p % 4) (q % 4)
 

@@ -21,3 +21,14 @@ pub enum Sign {
     Plus,
     Minus,
 }
+
+// What a byte is read as.
+pub enum LetterRead {
+    Got(Letter),
+    NotALetter,
+}
+
+pub enum SignRead {
+    Got(Sign),
+    NotASign,
+}

@@ -7,6 +7,7 @@ use Prim.Native.Nat.{ℕ, _≤_}
 use lib.ListN.{length}
 use Rattle.pauli.specs.declared.Pauli.{Pauli}
 use Rattle.pauli.specs.Letters.{letterByte}
+use Rattle.pauli.specs.Syndrome.{syndrome}
 use Rattle.sheet.specs.declared.Code.{Code}
 use Rattle.sheet.specs.declared.Refusal.{Refusal}
 use Rattle.sheet.specs.Reader.{got, readForm}
@@ -16,7 +17,7 @@ use Rattle.sheet.specs.Statements.{RefusalLeaves, Among}
 use Rattle.sheet.specs.Text.{line}
 use Rattle.admission.specs.declared.Admission.{Admission}
 use Rattle.admission.specs.Admission.{codeFault, readSheet}
-use Rattle.decoder.specs.Syndrome.{syndrome, syndromeText}
+use Rattle.decoder.specs.Syndrome.{syndromeText}
 use Rattle.decoder.specs.Statements.{IsCorrected}
 use Rattle.reporting.specs.Report.{codeText, correctionLine, refusalText, reportText, writeReport}
 

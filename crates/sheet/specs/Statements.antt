@@ -3,11 +3,11 @@ use mathlib.Core.Bool.{true}
 use mathlib.Core.List.{List, [], _∷_, _++_, map}
 use mathlib.Core.Option.{Option, some}
 use mathlib.Core.Path.{_≡_}
-use Prim.Native.Nat.{ℕ, _%_, _≤_}
+use Prim.Native.Nat.{ℕ, _≤_}
 use lib.Dec.{eqb}
 use lib.ListN.{length}
-use Rattle.pauli.specs.declared.Pauli.{Pauli}
 use Rattle.pauli.specs.Lists.{anyOf}
+use Rattle.pauli.specs.Product.{modulo4}
 use Rattle.sheet.specs.declared.Code.{Code}
 use Rattle.sheet.specs.declared.Refusal.{Refusal}
 use Rattle.sheet.specs.Reader.{got, readForm, readLines, linesReading}
@@ -22,10 +22,7 @@ pub record Sized (c : Code) : Type 0 where
   pub roomX : length (c .x) ≡ 24
   pub roomZ : length (c .z) ≡ 24
 
--- A Pauli and a record with their phases brought to 0 to 3. 01: "A phase is read modulo 4."
-unfoldable pub modulo4 : Pauli → Pauli
-modulo4 P = record { p = P .p % 4; a = P .a; b = P .b }
-
+-- A record with its phases brought to 0 to 3. 01: "A phase is read modulo 4."
 unfoldable pub phasesModulo4 : Code → Code
 phasesModulo4 c =
     record { n = c .n; r = c .r; d = c .d; g = map modulo4 (c .g); x = map modulo4 (c .x); z = map modulo4 (c .z); w = modulo4 (c .w) }
