@@ -13,7 +13,7 @@ use lib.Pow.{shr-shr}
 use Rattle.pauli.specs.declared.Pauli.{Pauli}
 use Rattle.pauli.specs.declared.Letter.{Letter}
 use Rattle.pauli.specs.declared.Letter.the-variants.{I, X, Y, Z}
-use Rattle.pauli.specs.Letters.{letterAt, xBit, zBit, lettersAt, lettersOf, letterOn, maskOf, xMask, zMask, signedRow, ofLetters}
+use Rattle.pauli.specs.Letters.{letterAt, xBit, zBit, lettersAt, lettersOf, letterOn, maskOf, xMask, zMask, rowOf, signedRow, ofLetters}
 use Rattle.pauli.specs.Masks.{countOnes, dot}
 use Rattle.pauli.specs.Order.{letterWeight, weightOf}
 use Rattle.pauli.specs.Product.{weight}
@@ -42,28 +42,26 @@ shr-suc m j = ap (λ (k : ℕ). m / 2 ^ k) (omega arith) ∙ sym (shr-shr m 1 j)
 -- ---- a letter and its two bits
 
 xBit-lt : (l : Letter) → xBit l < 2
-unfolding xBit
 xBit-lt I = lit< tt
 xBit-lt X = lit< tt
 xBit-lt Y = lit< tt
 xBit-lt Z = lit< tt
 
 zBit-lt : (l : Letter) → zBit l < 2
-unfolding zBit
 zBit-lt I = lit< tt
 zBit-lt X = lit< tt
 zBit-lt Y = lit< tt
 zBit-lt Z = lit< tt
 
 letter-returns : (l : Letter) → letterAt (xBit l) (zBit l) ≡ l
-unfolding xBit zBit letterAt
+unfolding letterAt
 letter-returns I = refl
 letter-returns X = refl
 letter-returns Y = refl
 letter-returns Z = refl
 
 bits-return : (x y : ℕ) → x < 2 → y < 2 → (xBit (letterAt x y) ≡ x) × (zBit (letterAt x y) ≡ y)
-unfolding xBit zBit letterAt
+unfolding letterAt
 bits-return zero zero hx hy = omega arith
 bits-return (suc x) zero hx hy = omega arith
 bits-return zero (suc y) hx hy = omega arith
@@ -91,7 +89,7 @@ string-returns [] = refl
 string-returns (l ∷ s) = simp (low-bit, half, xBit-lt, zBit-lt, letter-returns, string-returns s)
 
 pub letters-return : LettersReturn
-unfolding signedRow lettersOf
+unfolding signedRow rowOf lettersOf
 letters-return sign s = string-returns s
 
 masks-of-letters : (n a b : ℕ) → a < 2 ^ n → b < 2 ^ n → (xMask (lettersAt n a b) ≡ a) × (zMask (lettersAt n a b) ≡ b)
@@ -145,7 +143,7 @@ module _
       joined-step op op-half op-low (xMask (l ∷ s)) (zMask (l ∷ s)) ∙ simp (low-bit, half, xBit-lt, zBit-lt, ones-count-letters s, adds)
 
 y-adds : (l : Letter) (s : List Letter) → countY (l ∷ s) ≡ bitAnd (xBit l) (zBit l) + countY s
-unfolding countY xBit zBit
+unfolding countY
 y-adds I s = omega arith
 y-adds X s = omega arith
 y-adds Y s = omega arith
@@ -156,16 +154,16 @@ unfolding countY dot
 dot-counts-y = ones-count-letters bitAnd and-half and-low countY countOnes-zero y-adds
 
 letter-adds : (l : Letter) (s : List Letter) → weightOf (l ∷ s) ≡ bitOr (xBit l) (zBit l) + weightOf s
-unfolding weightOf letterWeight xBit zBit
+unfolding weightOf letterWeight
 letter-adds I s = refl
 letter-adds X s = refl
 letter-adds Y s = refl
 letter-adds Z s = refl
 
 pub weight-counts-letters : WeightCountsLetters
-unfolding weight ofLetters signedRow weightOf
+unfolding weight ofLetters signedRow rowOf weightOf
 weight-counts-letters = ones-count-letters bitOr or-half or-low weightOf countOnes-zero letter-adds
 
 pub weight-of-letters : (n : ℕ) (P : Pauli) → P .a < 2 ^ n → P .b < 2 ^ n → weight P ≡ weightOf (lettersOf n P)
-unfolding weight ofLetters signedRow
+unfolding weight ofLetters signedRow rowOf
 weight-of-letters n P ha hb = let m = masks-return n P ha hb in cc (m .0, m .1, weight-counts-letters (lettersOf n P))

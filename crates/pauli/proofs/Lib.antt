@@ -1,8 +1,10 @@
 pub mod Modulo
+pub mod Lists
 pub mod Masks
 pub mod Product
 pub mod Syndrome
 pub mod Letters
 pub mod Rows
+pub mod Order
 pub mod Table
 pub mod Examples

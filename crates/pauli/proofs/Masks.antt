@@ -3,11 +3,11 @@
 use mathlib.Core.List.{head-eq-of-cons-eq, tail-eq-of-cons-eq}
 use mathlib.Core.Path.{_≡_, refl, ap, ap₂, sym, _∙_}
 use Prim.Native.Nat.{ℕ, zero, suc, _+_, _*_, _/_, _%_, _^_, _<_, _≤_}
-use native.Mathlib.Nat.{mod-lt}
+use native.Mathlib.Nat.{mod-lt, div-eq-of-lt, lt-of-lt-of-le, pow-le-pow-right}
 use native.Mathlib.Omega.{arith}
 use lib.Arith.{bin-ind}
-use lib.Bits.{bitAnd, bitOr, bitXor, and-shr, and-mod, or-shr, or-mod, xor-shr, xor-mod, and-comm, xor-comm}
-use lib.Count.{ones, onesIn, ones-step}
+use lib.Bits.{bitAnd, bitOr, bitXor, and-shr, and-mod, or-shr, or-mod, xor-shr, xor-mod, and-comm, and-le-l, xor-comm}
+use lib.Count.{ones, onesIn, ones-step, ones-le}
 use Rattle.pauli.proofs.Modulo.{same-remainder}
 use Rattle.pauli.specs.Masks.{onesAmong, countOnes, dot, bits}
 
@@ -161,6 +161,14 @@ twice-or a b = omega (arith, countOnes-or a b, countOnes-xor a b)
 
 -- ---- a·b
 
+-- As a machine counts it, with the bound that its type gives.
+pub dot-ones : (a b : ℕ) → dot a b ≡ ones (bitAnd a b)
+unfolding dot
+dot-ones a b = countOnes-ones (bitAnd a b)
+
+pub ones-and-le : (k a b : ℕ) → a < 2 ^ k → ones (bitAnd a b) ≤ k
+ones-and-le k a b h = ones-le k (bitAnd a b) (omega (arith, and-le-l a b))
+
 pub dot-comm : (a b : ℕ) → dot a b ≡ dot b a
 unfolding dot
 dot-comm a b = ap countOnes (and-comm a b)
@@ -174,6 +182,10 @@ pub dot-xor-l : (a b c : ℕ) → dot (bitXor a b) c % 2 ≡ (dot a c + dot b c)
 dot-xor-l a b c = rw (dot-comm (bitXor a b) c, dot-comm a c, dot-comm b c) (dot-xor c a b)
 
 -- ---- a mask below 2^n is its n bits
+
+-- It has none beyond them.
+pub no-high-bits : (n m j : ℕ) → m < 2 ^ n → n ≤ j → m / 2 ^ j ≡ 0
+no-high-bits n m j h l = div-eq-of-lt (lt-of-lt-of-le h (pow-le-pow-right (omega arith) l))
 
 pub bits-determine : (n a b : ℕ) → a < 2 ^ n → b < 2 ^ n → bits n a ≡ bits n b → a ≡ b
 unfolding bits

@@ -6,20 +6,28 @@ use Prim.Native.Nat.{ℕ, zero, suc, _+_, _*_, _/_, _%_, _<_, _≤_}
 use native.Mathlib.Nat.{add-mod, mod-lt, mod-eq-of-lt}
 use native.Mathlib.Omega.{arith}
 use lib.Bits.{bitAnd, bitOr, bitXor, and-zero-r, xor-comm, xor-zero-r, xor-self}
+use lib.Count.{ones}
 use lib.Dec.{eqb}
 use borrow.Author.Tests.{eqb-true, eq-eqb, ne-eqb}
 use Rattle.pauli.specs.declared.Pauli.{Pauli}
 use Rattle.pauli.specs.Masks.{countOnes, dot}
 use Rattle.pauli.specs.Product.{identity, product, negated, inverse, symplectic, commutes, anticommutes, weight, modulo4}
-use Rattle.pauli.proofs.Masks.{digit, xor-assoc, dot-comm, dot-xor, dot-xor-l, countOnes-zero, countOnes-xor-le, twice-or, xor-swap}
+use Rattle.pauli.proofs.Masks.{digit, xor-assoc, dot-comm, dot-ones, dot-xor, dot-xor-l, countOnes-zero, countOnes-xor-le, twice-or, xor-swap}
 use Rattle.pauli.proofs.Modulo.{same-remainder, sum-remainder}
 
-abbrev pauli : ℕ → ℕ → ℕ → Pauli
+abbrev pub pauli : ℕ → ℕ → ℕ → Pauli
 pauli p a b = record { p = p; a = a; b = b }
 
 -- Two Paulis with the same parts are the same.
 pub same-parts : (P Q : Pauli) → P .p ≡ Q .p → P .a ≡ Q .a → P .b ≡ Q .b → P ≡ Q
 same-parts P Q p a b = ap (λ (x : ℕ). pauli x (P .a) (P .b)) p ∙ ap₂ (pauli (Q .p)) a b
+
+-- The product as a machine computes it, with the phases read modulo 4 as they come in.
+pub product-computed : (P Q : Pauli) → pauli ((P .p % 4 + Q .p % 4 + 2 * ones (bitAnd (P .b) (Q .a))) % 4) (bitXor (P .a) (Q .a)) (bitXor (P .b) (Q .b)) ≡ product P Q
+unfolding product
+product-computed P Q =
+    ap (λ (x : ℕ). pauli x (bitXor (P .a) (Q .a)) (bitXor (P .b) (Q .b)))
+    (same-remainder 4 _ _ (P .p / 4 + Q .p / 4) 0 (omega (arith, dot-ones (P .b) (Q .a))))
 
 -- ---- a group
 
@@ -56,11 +64,11 @@ dot-zero-r : (m : ℕ) → dot m 0 ≡ 0
 dot-zero-r m = dot-comm m 0 ∙ dot-zero-l m
 
 pub product-identity-l : (P : Pauli) → product identity P ≡ modulo4 P
-unfolding product identity modulo4
+unfolding product modulo4
 product-identity-l P = same-parts (product identity P) (modulo4 P) (ap (λ (x : ℕ). x % 4) (omega (arith, dot-zero-l (P .a)))) refl refl
 
 pub product-identity-r : (P : Pauli) → product P identity ≡ modulo4 P
-unfolding product identity modulo4
+unfolding product modulo4
 product-identity-r P =
     same-parts (product P identity) (modulo4 P) (ap (λ (x : ℕ). x % 4) (omega (arith, dot-zero-r (P .b)))) (xor-zero-r (P .a)) (xor-zero-r (P .b))
 
@@ -68,12 +76,12 @@ inverse-phase : (p d : ℕ) → (p + (3 * p + 2 * d) % 4 + 2 * d) % 4 ≡ 0
 inverse-phase p d = same-remainder 4 _ 0 ((3 * p + 2 * d) / 4) (p + d) (omega arith)
 
 pub product-inverse-r : (P : Pauli) → product P (inverse P) ≡ identity
-unfolding product inverse identity
+unfolding product inverse
 product-inverse-r P =
     same-parts (product P (inverse P)) identity (inverse-phase (P .p) (dot (P .b) (P .a))) (xor-self (P .a)) (xor-self (P .b))
 
 pub product-inverse-l : (P : Pauli) → product (inverse P) P ≡ identity
-unfolding product inverse identity
+unfolding product inverse
 product-inverse-l P =
     same-parts (product (inverse P) P) identity
     (ap (λ (x : ℕ). x % 4) (omega arith) ∙ inverse-phase (P .p) (dot (P .b) (P .a))) (xor-self (P .a)) (xor-self (P .b))

@@ -11,7 +11,7 @@ use Rattle.pauli.specs.declared.Pauli.{Pauli}
 use Rattle.pauli.specs.declared.Letter.{Letter}
 use Rattle.pauli.specs.declared.Sign.{Sign}
 use Rattle.pauli.specs.declared.Sign.the-variants.{Plus, Minus}
-use Rattle.pauli.specs.Letters.{lettersOf, xMask, zMask, signPhase, rowPhase, signedRow, hasSign, isSignedRow, signOf}
+use Rattle.pauli.specs.Letters.{lettersOf, xMask, zMask, signPhase, rowPhase, rowOf, signedRow, hasSign, isSignedRow, signOf}
 use Rattle.pauli.specs.Masks.{dot}
 use Rattle.pauli.specs.Product.{product, commutes, symplectic, modulo4, hasPhase}
 use Rattle.pauli.proofs.Letters.{countY, dot-counts-y, masks-return}
@@ -22,7 +22,7 @@ use Rattle.pauli.proofs.Product.{commutes-zero}
 -- ---- signs and phases
 
 pub row-phase-of-letters : (sign : Sign) (s : List Letter) → (signedRow sign s) .p ≡ (countY s + signPhase sign) % 4
-unfolding signedRow rowPhase
+unfolding signedRow rowOf rowPhase
 row-phase-of-letters sign s = rw dot-counts-y
 
 phase-of-sign : (sign : Sign) (P : Pauli) → hasSign sign P ≡ true → rowPhase sign (P .a) (P .b) ≡ P .p % 4
@@ -30,11 +30,11 @@ unfolding hasSign hasPhase rowPhase
 phase-of-sign sign P h = omega (arith, eqb-true (P .p % 4) (rowPhase sign (P .a) (P .b) % 4) h)
 
 row-has-sign : (sign : Sign) (s : List Letter) → hasSign sign (signedRow sign s) ≡ true
-unfolding hasSign hasPhase signedRow
+unfolding hasSign hasPhase signedRow rowOf
 row-has-sign sign s = let q = rowPhase sign (xMask s) (zMask s) % 4 in eq-eqb q q refl
 
 minus-is-not-plus : (s : List Letter) → hasSign Plus (signedRow Minus s) ≡ false
-unfolding hasSign hasPhase signedRow rowPhase signPhase
+unfolding hasSign hasPhase signedRow rowOf rowPhase
 minus-is-not-plus s = ne-eqb (rowPhase Minus (xMask s) (zMask s) % 4) (rowPhase Plus (xMask s) (zMask s) % 4) (omega arith)
 
 pub sign-returns : (sign : Sign) (s : List Letter) → signOf (signedRow sign s) ≡ sign
@@ -57,7 +57,7 @@ has-its-sign P = one-of (hasSign Plus P) refl
     one-of false e h = h
 
 pub row-returns : (n : ℕ) (P : Pauli) → P .a < 2 ^ n → P .b < 2 ^ n → isSignedRow P ≡ true → signedRow (signOf P) (lettersOf n P) ≡ modulo4 P
-unfolding signedRow modulo4
+unfolding signedRow rowOf modulo4
 row-returns n P ha hb h = let m = masks-return n P ha hb in cc (m .0, m .1, phase-of-sign (signOf P) P (has-its-sign P h))
 
 -- ---- the product of two rows
@@ -67,7 +67,7 @@ rowParity : Pauli → ℕ
 rowParity P = (P .p + dot (P .a) (P .b)) % 2
 
 even-of-row : (P : Pauli) → isSignedRow P ≡ true → rowParity P ≡ 0
-unfolding rowParity rowPhase signPhase
+unfolding rowParity rowPhase
 even-of-row P h = go (signOf P) (phase-of-sign (signOf P) P (has-its-sign P h))
   where
     go : (sign : Sign) → (dot (P .a) (P .b) + signPhase sign) % 4 ≡ P .p % 4 → (P .p + dot (P .a) (P .b)) % 2 ≡ 0
@@ -75,7 +75,7 @@ even-of-row P h = go (signOf P) (phase-of-sign (signOf P) P (has-its-sign P h))
     go Minus e = omega arith
 
 row-of-even : (P : Pauli) → rowParity P ≡ 0 → isSignedRow P ≡ true
-unfolding rowParity isSignedRow hasSign hasPhase rowPhase signPhase
+unfolding rowParity isSignedRow hasSign hasPhase rowPhase
 row-of-even P h = go (hasSign Plus P) refl
   where
     go : (plus : Bool) → hasSign Plus P ≡ plus → (hasSign Plus P || hasSign Minus P) ≡ true

@@ -23,13 +23,13 @@ letterAt zero (suc b) = Z
 letterAt (suc a) (suc b) = Y
 
 -- The other way round: a letter's bit in the X mask, and in the Z mask.
-unfoldable pub xBit : Letter → ℕ
+abbrev pub xBit : Letter → ℕ
 xBit I = 0
 xBit X = 1
 xBit Y = 1
 xBit Z = 0
 
-unfoldable pub zBit : Letter → ℕ
+abbrev pub zBit : Letter → ℕ
 zBit I = 0
 zBit X = 0
 zBit Y = 1
@@ -58,7 +58,7 @@ xMask ls = maskOf xBit ls
 unfoldable pub zMask : List Letter → ℕ
 zMask ls = maskOf zBit ls
 
-unfoldable pub signPhase : Sign → ℕ
+abbrev pub signPhase : Sign → ℕ
 signPhase Plus = 0
 signPhase Minus = 2
 
@@ -66,8 +66,11 @@ signPhase Minus = 2
 unfoldable pub rowPhase : Sign → ℕ → ℕ → ℕ
 rowPhase s a b = (dot a b + signPhase s) % 4
 
+unfoldable pub rowOf : Sign → ℕ → ℕ → Pauli
+rowOf s a b = record { p = rowPhase s a b; a = a; b = b }
+
 unfoldable pub signedRow : Sign → List Letter → Pauli
-signedRow s ls = record { p = rowPhase s (xMask ls) (zMask ls); a = xMask ls; b = zMask ls }
+signedRow s ls = rowOf s (xMask ls) (zMask ls)
 
 -- A string of letters as a Pauli, with sign +.
 unfoldable pub ofLetters : List Letter → Pauli
@@ -84,7 +87,7 @@ unfoldable pub signOf : Pauli → Sign
 signOf P = cond (hasSign Plus P) Plus Minus
 
 -- Letters and signs as bytes.
-unfoldable pub letterByte : Letter → ℕ
+abbrev pub letterByte : Letter → ℕ
 letterByte I = code "I"
 letterByte X = code "X"
 letterByte Y = code "Y"
@@ -93,7 +96,7 @@ letterByte Z = code "Z"
 unfoldable pub readLetter : ℕ → Option Letter
 readLetter = readByte letterByte (I ∷ X ∷ Y ∷ Z ∷ [])
 
-unfoldable pub signByte : Sign → ℕ
+abbrev pub signByte : Sign → ℕ
 signByte Plus = code "+"
 signByte Minus = code "-"
 
@@ -101,11 +104,11 @@ unfoldable pub readSign : ℕ → Option Sign
 readSign = readByte signByte (Plus ∷ Minus ∷ [])
 
 -- What a byte was read as, where it was read as one.
-unfoldable pub letterIn : LetterRead → Option Letter
+abbrev pub letterIn : LetterRead → Option Letter
 letterIn (LetterRead.Got l) = some l
 letterIn LetterRead.NotALetter = none
 
-unfoldable pub signIn : SignRead → Option Sign
+abbrev pub signIn : SignRead → Option Sign
 signIn (SignRead.Got s) = some s
 signIn SignRead.NotASign = none
 

@@ -7,7 +7,7 @@ use Rattle.pauli.specs.declared.Pauli.{Pauli}
 use Rattle.pauli.specs.Masks.{countOnes, dot}
 
 -- The Pauli I.
-unfoldable pub identity : Pauli
+abbrev pub identity : Pauli
 identity = record { p = 0; a = 0; b = 0 }
 
 -- 01: "The product of (p,a,b) and (p',a',b') has phase p + p' + 2(b·a') modulo 4 and masks a+a', b+b' bit by bit."

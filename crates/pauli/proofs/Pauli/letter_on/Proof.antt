@@ -1,0 +1,30 @@
+-- A shift brings the two bits down. Beyond 32 places a mask of 32 bits has none.
+use borrow.Author.Needs.{needs}
+use native.Mathlib.Omega.{arith}
+use Rattle.pauli.specs.Letters.{letterAt, letterOn}
+use Rattle.pauli.proofs.Masks.{no-high-bits}
+use Rattle.pauli.proofs.Pauli.letter_on.Statement.{statement}
+use Rattle.pauli.proofs.Pauli.letter_on.Tie as tie
+
+shr-of-bits : tie.Need-shr-of-bits
+shr-of-bits c = search needs
+
+shr-of-bits-2 : tie.Need-shr-of-bits-2
+shr-of-bits-2 c = search needs
+
+of-bits-requires : tie.Need-of-bits-requires
+of-bits-requires c κs = search needs
+
+returns : tie.Need-returns
+unfolding letterOn
+returns c = c .of-bits .ensures
+
+returns-2 : tie.Need-returns-2
+unfolding letterOn letterAt
+returns-2 c =
+    let P = c .before .args .self in
+    let j = c .before .args .place in
+    rw (no-high-bits 32 (P .a) j (search needs) (omega arith), no-high-bits 32 (P .b) j (search needs) (omega arith))
+
+pub letter-on-spec : {M : Type 1} → statement M
+letter-on-spec = tie.close (tie.spec shr-of-bits shr-of-bits-2 of-bits-requires returns returns-2)
