@@ -183,7 +183,7 @@ pub enum SignRead {
 
 impl Sign {
     // What the sign adds to a row's phase.
-    pub fn phase(self) -> u32
+    fn phase(self) -> u32
         ensures { λ r. ⌜ r ≡ signPhase self ⌝ }
     {
         match self {
