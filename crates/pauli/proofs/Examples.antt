@@ -16,6 +16,7 @@ use Rattle.pauli.specs.Masks.{bits}
 use Rattle.pauli.specs.Opened.{opened}
 use Rattle.pauli.specs.Order.{Earlier, SmallerLetter, rank, strings, stringsUpTo, weightOf}
 use Rattle.pauli.specs.Product.{identity, product, commutes, anticommutes, weight, sameMasks, samePauli}
+use Rattle.pauli.specs.Syndrome.{syndrome}
 
 -- ---- searches through a list
 
@@ -55,6 +56,13 @@ commutation :
     × (commutes (ofLetters (X ∷ X ∷ [])) (ofLetters (Z ∷ Z ∷ [])) ≡ true)
 unfolding opened
 commutation = (refl, refl, refl)
+
+-- X on the first qubit is seen by the first of these rows alone, and on the second by both.
+syndromes :
+    map (λ s. syndrome (ofLetters (Z ∷ Z ∷ I ∷ []) ∷ ofLetters (I ∷ Z ∷ Z ∷ []) ∷ []) (ofLetters s)) ((X ∷ I ∷ I ∷ []) ∷ (I ∷ X ∷ I ∷ []) ∷ [])
+    ≡ (true ∷ false ∷ []) ∷ (true ∷ true ∷ []) ∷ []
+unfolding opened
+syndromes = refl
 
 -- ---- letters, masks and phases
 

@@ -1,7 +1,9 @@
 -- The two signs are tried in turn.
-use mathlib.Core.Path.{sym, _∙_}
+use mathlib.Core.Bool.{Bool, _||_}
+use mathlib.Core.Path.{ap, sym, _∙_}
 use borrow.Author.Needs.{needs}
-use Rattle.pauli.specs.Letters.{isSignedRow}
+use Rattle.pauli.specs.declared.Sign.the-variants.{Minus}
+use Rattle.pauli.specs.Letters.{hasSign, isSignedRow}
 use Rattle.pauli.proofs.Pauli.is_signed_row.Statement.{statement}
 use Rattle.pauli.proofs.Pauli.is_signed_row.Tie as tie
 
@@ -13,11 +15,15 @@ has-sign-requires-2 c κs = search needs
 
 returns : tie.Need-returns
 unfolding isSignedRow
-returns c = rw (c .if1 .taken, sym (c .before .has-sign .ensures) ∙ c .if1 .taken)
+returns c =
+    let P = c .before .before .args .self in
+    c .if1 .taken ∙ ap (λ (plus : Bool). plus || hasSign Minus P) (sym (c .if1 .taken) ∙ c .before .has-sign .ensures)
 
 returns-2 : tie.Need-returns-2
 unfolding isSignedRow
-returns-2 c = rw (← c .before .before .has-sign .ensures, c .before .if1 .left) (c .has-sign2 .ensures)
+returns-2 c =
+    let P = c .before .before .before .args .self in
+    c .has-sign2 .ensures ∙ ap (λ (plus : Bool). plus || hasSign Minus P) (sym (c .before .if1 .left) ∙ c .before .before .has-sign .ensures)
 
 pub is-signed-row-spec : {M : Type 1} → statement M
 is-signed-row-spec = tie.close (tie.spec has-sign-requires has-sign-requires-2 returns returns-2)

@@ -1,5 +1,8 @@
 -- The sign is + where + fits the phase.
+use mathlib.Core.Bool.{Bool, cond}
+use mathlib.Core.Path.{ap, sym, _∙_}
 use borrow.Author.Needs.{needs}
+use Rattle.pauli.specs.declared.Sign.the-variants.{Plus, Minus}
 use Rattle.pauli.specs.Letters.{signOf}
 use Rattle.pauli.proofs.Pauli.sign.Statement.{statement}
 use Rattle.pauli.proofs.Pauli.sign.Tie as tie
@@ -9,11 +12,11 @@ has-sign-requires c κs = search needs
 
 returns : tie.Need-returns
 unfolding signOf
-returns c = rw (← c .before .has-sign .ensures, c .if1 .taken)
+returns c = ap (λ (plus : Bool). cond plus Plus Minus) (sym (c .if1 .taken) ∙ c .before .has-sign .ensures)
 
 returns-2 : tie.Need-returns-2
 unfolding signOf
-returns-2 c = rw (← c .before .has-sign .ensures, c .if1 .left)
+returns-2 c = ap (λ (plus : Bool). cond plus Plus Minus) (sym (c .if1 .left) ∙ c .before .has-sign .ensures)
 
 pub sign-spec : {M : Type 1} → statement M
 sign-spec = tie.close (tie.spec has-sign-requires returns returns-2)
