@@ -203,7 +203,7 @@ fn cases() -> Vec<String> {
             .flat_map(|r| twos.iter().map(move |s| format!("{r} {s}"))),
     );
     // every width from 1 to 32, with 1 to 5 rows
-    let mut random = Random(0x5eed_0f_9a11_15);
+    let mut random = Random(0x5eed_0f9a_1115);
     for n in 1..=32 {
         for rows in 1..=5 {
             lines.push(
