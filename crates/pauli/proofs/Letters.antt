@@ -13,7 +13,7 @@ use lib.Pow.{shr-shr}
 use Rattle.pauli.specs.declared.Pauli.{Pauli}
 use Rattle.pauli.specs.declared.Letter.{Letter}
 use Rattle.pauli.specs.declared.Letter.the-variants.{I, X, Y, Z}
-use Rattle.pauli.specs.Letters.{letterAt, xBit, zBit, lettersAt, lettersOf, letterOn, maskOf, xMask, zMask, rowOf, signedRow, ofLetters}
+use Rattle.pauli.specs.Letters.{letterAt, xBit, zBit, lettersAt, lettersOf, letterOn, maskOf, xMask, zMask, countY, rowOf, signedRow, ofLetters}
 use Rattle.pauli.specs.Masks.{countOnes, dot}
 use Rattle.pauli.specs.Order.{letterWeight, weightOf}
 use Rattle.pauli.specs.Product.{weight}
@@ -124,13 +124,6 @@ unfolding lettersOf letterOn
 letters-at n j P = lettersAt-at n j (P .a) (P .b)
 
 -- ---- counts of letters
-
-unfoldable pub countY : List Letter → ℕ
-countY [] = 0
-countY (I ∷ s) = countY s
-countY (X ∷ s) = countY s
-countY (Y ∷ s) = suc (countY s)
-countY (Z ∷ s) = countY s
 
 -- Where a count adds for each letter what an operation on masks, bit by bit, makes of the letter's two bits, it is the number of ones in the result.
 module _

@@ -2,11 +2,11 @@
 -- `SmallerLetter` and `Earlier` both compare a key and go on only where it is equal, so their laws are proved of one such step.
 -- The strings of a weight are taken by their first letter: between two that begin differently its rank decides, and an equal first letter keeps the order.
 use mathlib.Core.HLevel.{⊥-prop, ×-prop, hedberg}
-use mathlib.Core.List.{List, [], _∷_, map, flatMap, mem-append, Pairwise, Pairwise·nil, Pairwise·map, pairwise-append, pairwise-singleton}
+use mathlib.Core.List.{List, [], _∷_, map, flatMap, mem-append, List·Nodup, Pairwise, Pairwise·nil, Pairwise·imp, Pairwise·map, pairwise-append, pairwise-singleton}
 use mathlib.Core.List.{List·Memᴰ, List·Memᴰ·head, List·Memᴰ·not-nil, List·Memᴰ·append-cases, List·Memᴰ·eq-of-singleton}
 use mathlib.Core.List.{Memᴰ·append-left, Memᴰ·append-right, Memᴰ·map, Memᴰ·of-map}
 use mathlib.Core.Logic.{_⊎_, inl, inr, ⊎-elim, ⊎-map, by-cases, ∥∥₁-elim, Or·elim, Iff·or, Iff·trans}
-use mathlib.Core.Path.{_≡_, refl, ap, sym, _∙_}
+use mathlib.Core.Path.{_≡_, refl, ap, sym, subst, _∙_}
 use Prim.Native.Nat.{ℕ, zero, suc, _+_, _≤_, _<_}
 use lib.ListN.{length, getD, replicate}
 use native.Mathlib.Bridge.{le-prop}
@@ -107,6 +107,10 @@ earlier-order = record {
   total = λ s t e. step-total (λ n. n) (λ m n p. p) (weightOf s) (weightOf t) (λ p. smaller-total s t e);
 }
 
+-- In a list that rises no string stands twice.
+rising-once : {listed : List (List Letter)} → Pairwise Earlier listed → List·Nodup listed
+rising-once = Pairwise·imp (λ s t e same. earlier-order .irreflexive t (subst (λ (u : List Letter). Earlier u t) same e))
+
 -- ---- strings by their first letter
 
 earlier-cons : (l : Letter) (s t : List Letter) → Earlier s t → Earlier (l ∷ s) (l ∷ t)
@@ -205,6 +209,7 @@ strings-increasing (suc n) (suc v) =
 pub strings-listed : StringsAreListed
 strings-listed n v = record {
   exactly = λ s. (λ m. ∥∥₁-elim m (×-prop (ℕ-set _ _) (ℕ-set _ _)) (strings-weigh n v s), λ h. ∣ rw (h .0, h .1) at (listed s) ∣₁);
+  once = rising-once (strings-increasing n v);
   increasing = strings-increasing n v;
 }
 
@@ -213,19 +218,23 @@ pub stringsUpTo-listed : StringsUpToAreListed
 unfolding stringsUpTo Earlier
 stringsUpTo-listed n zero = record {
   exactly = λ s. Iff·trans (strings-listed n 0 .exactly s) (omega arith);
+  once = strings-listed n 0 .once;
   increasing = strings-listed n 0 .increasing;
 }
 stringsUpTo-listed n (suc t) =
     let before = stringsUpTo-listed n t in
     let last = strings-listed n (suc t) in
+    let rising : Pairwise Earlier (stringsUpTo n (suc t)) =
+    pairwise-append earlier-prop .1 (
+      before .increasing,
+      last .increasing,
+      λ s m u k. inl (omega (arith, before .exactly s .0 m, last .exactly u .0 k)),
+    ) in
     record {
       exactly = λ s. Iff·trans mem-append (Iff·trans (Iff·or (before .exactly s) (last .exactly s)) (
         λ o. Or·elim (×-prop (ℕ-set _ _) le-prop) o (λ h. omega arith) (λ h. omega arith),
         λ h. ∣ ⊎-map (λ k. (h .0, k)) (λ k. (h .0, k)) (le-suc-iff .0 (h .1)) ∣₁,
       ));
-      increasing = pairwise-append earlier-prop .1 (
-        before .increasing,
-        last .increasing,
-        λ s m u k. inl (omega (arith, before .exactly s .0 m, last .exactly u .0 k)),
-      );
+      once = rising-once rising;
+      increasing = rising;
     }

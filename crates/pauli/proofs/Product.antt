@@ -1,16 +1,16 @@
 -- Paulis with phase are a group, and what commutes in it. Phases are compared as remainders by 4, where twice a count of ones depends on its parity alone.
-use mathlib.Core.Bool.{Bool, Bool·beq, true, false, not, xor, false≢true}
+use mathlib.Core.Bool.{Bool, true, false, not, xor, false≢true}
 use mathlib.Core.Logic.{_↔_}
 use mathlib.Core.Path.{_≡_, refl, ap, ap₂, sym, _∙_}
-use Prim.Native.Nat.{ℕ, zero, suc, _+_, _*_, _/_, _%_, _<_, _≤_}
+use Prim.Native.Nat.{ℕ, _+_, _*_, _/_, _%_, _<_, _≤_}
 use native.Mathlib.Nat.{add-mod, mod-lt, mod-eq-of-lt}
 use native.Mathlib.Omega.{arith}
-use lib.Bits.{bitAnd, bitOr, bitXor, and-zero-r, xor-comm, xor-zero-r, xor-self}
+use lib.Bits.{bitAnd, bitXor, xor-comm, xor-zero-r, xor-self}
 use lib.Count.{ones}
 use lib.Dec.{eqb}
-use borrow.Author.Tests.{eqb-true, eq-eqb, ne-eqb}
+use borrow.Author.Tests.{eqb-true}
 use Rattle.pauli.specs.declared.Pauli.{Pauli}
-use Rattle.pauli.specs.Masks.{countOnes, dot}
+use Rattle.pauli.specs.Masks.{dot}
 use Rattle.pauli.specs.Product.{identity, product, negated, inverse, symplectic, commutes, anticommutes, weight, modulo4}
 use Rattle.pauli.proofs.Masks.{digit, xor-assoc, dot-comm, dot-ones, dot-xor, dot-xor-l, countOnes-zero, countOnes-xor-le, twice-or, xor-swap}
 use Rattle.pauli.proofs.Modulo.{same-remainder, sum-remainder}
@@ -140,17 +140,22 @@ not-negated P Q e = differ ((product P Q) .p) (product-phase-lt P Q) (ap (λ (R 
     differ : (x : ℕ) → x < 4 → x ≡ (x + 2) % 4 → ⊥
     differ x h e = omega arith
 
--- So the count decides: it is even exactly where the two products are one.
+-- So the count decides: it is even exactly where the two products are one, and odd exactly where they differ by the sign.
 pub commutes-decides : (P Q : Pauli) → (commutes P Q ≡ true) ↔ (product P Q ≡ product Q P)
 unfolding anticommutes
 commutes-decides P Q = (commuting-product P Q, go (commutes P Q) refl)
   where
-    odd : commutes P Q ≡ false → anticommutes P Q ≡ true
-    odd e = ap not e
-
     go : (c : Bool) → commutes P Q ≡ c → product P Q ≡ product Q P → commutes P Q ≡ true
     go true e same = e
-    go false e same = absurd (not-negated Q P (sym same ∙ anticommuting-product P Q (odd e)))
+    go false e same = absurd (not-negated Q P (sym same ∙ anticommuting-product P Q (ap not e)))
+
+pub anticommutes-decides : (P Q : Pauli) → (anticommutes P Q ≡ true) ↔ (product P Q ≡ negated (product Q P))
+unfolding anticommutes
+anticommutes-decides P Q = (anticommuting-product P Q, go (commutes P Q) refl)
+  where
+    go : (c : Bool) → commutes P Q ≡ c → product P Q ≡ negated (product Q P) → anticommutes P Q ≡ true
+    go true e differ = absurd (not-negated Q P (sym (commuting-product P Q e) ∙ differ))
+    go false e differ = ap not e
 
 odd-sum : (x y : ℕ) → not (eqb ((x % 2 + y % 2) % 2) 0) ≡ xor (not (eqb (x % 2) 0)) (not (eqb (y % 2) 0))
 unfolding xor

@@ -1,5 +1,5 @@
 -- The syndrome of a product is the sum of the two syndromes, bit by bit, whatever the rows.
-use mathlib.Core.List.{List, [], _∷_, map, zipWith}
+use mathlib.Core.List.{List, [], _∷_, zipWith}
 use mathlib.Core.Path.{_≡_, refl, ap₂}
 use Rattle.pauli.specs.declared.Pauli.{Pauli}
 use Rattle.pauli.specs.Product.{product}

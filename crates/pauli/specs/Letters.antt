@@ -58,6 +58,14 @@ xMask ls = maskOf xBit ls
 unfoldable pub zMask : List Letter → ℕ
 zMask ls = maskOf zBit ls
 
+-- How many letters are Y.
+unfoldable pub countY : List Letter → ℕ
+countY [] = 0
+countY (I ∷ ls) = countY ls
+countY (X ∷ ls) = countY ls
+countY (Y ∷ ls) = suc (countY ls)
+countY (Z ∷ ls) = countY ls
+
 abbrev pub signPhase : Sign → ℕ
 signPhase Plus = 0
 signPhase Minus = 2

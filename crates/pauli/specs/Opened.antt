@@ -6,9 +6,9 @@ use Rattle.pauli.specs.Lists.{firstOf, anyOf, allOf, readByte, bytes}
 use Rattle.pauli.specs.Masks.{onesAmong, countOnes, dot, bits}
 use Rattle.pauli.specs.Product.{product, negated, inverse, symplectic, commutes, anticommutes, weight, sameMasks, modulo4, hasPhase, samePauli}
 use Rattle.pauli.specs.Syndrome.{syndrome, addBits}
-use Rattle.pauli.specs.Letters.{letterAt, lettersAt, lettersOf, letterOn, maskOf, xMask, zMask, rowPhase, rowOf, signedRow, ofLetters, hasSign, isSignedRow, signOf, readLetter, readSign, letterText, rowText}
+use Rattle.pauli.specs.Letters.{letterAt, lettersAt, lettersOf, letterOn, maskOf, xMask, zMask, countY, rowPhase, rowOf, signedRow, ofLetters, hasSign, isSignedRow, signOf, readLetter, readSign, letterText, rowText}
 use Rattle.pauli.specs.Order.{rank, letterWeight, weightOf, strings, stringsUpTo}
 
 unfoldable pub opened : Unit {0}
-unfolding firstOf anyOf allOf readByte bytes onesAmong countOnes dot bits product negated inverse symplectic commutes anticommutes weight sameMasks modulo4 hasPhase samePauli syndrome addBits letterAt lettersAt lettersOf letterOn maskOf xMask zMask rowPhase rowOf signedRow ofLetters hasSign isSignedRow signOf readLetter readSign letterText rowText rank letterWeight weightOf strings stringsUpTo flatMap zipWith xor
+unfolding firstOf anyOf allOf readByte bytes onesAmong countOnes dot bits product negated inverse symplectic commutes anticommutes weight sameMasks modulo4 hasPhase samePauli syndrome addBits letterAt lettersAt lettersOf letterOn maskOf xMask zMask countY rowPhase rowOf signedRow ofLetters hasSign isSignedRow signOf readLetter readSign letterText rowText rank letterWeight weightOf strings stringsUpTo flatMap zipWith xor
 opened = tt

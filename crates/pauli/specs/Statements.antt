@@ -1,5 +1,5 @@
 -- What is stated of letters, masks and the order.
-use mathlib.Core.List.{List, List·Mem, Pairwise}
+use mathlib.Core.List.{List, List·Mem, List·Nodup, Pairwise}
 use mathlib.Core.Logic.{_⊎_, _↔_}
 use mathlib.Core.Path.{_≡_}
 use Prim.Native.Nat.{ℕ, _^_, _≤_, _<_}
@@ -34,9 +34,10 @@ pub record EarlierIsStrictTotalOrder : Type 0 where
   pub transitive : (s t u : List Letter) → Earlier s t → Earlier t u → Earlier s u
   pub total : (s t : List Letter) → length s ≡ length t → (s ≡ t) ⊎ Earlier s t ⊎ Earlier t s
 
--- A list has exactly the strings that meet the condition, each once, the earlier ones first. So the first match in it is the earliest.
+-- A list has exactly the strings that meet the condition, each once, the earlier ones first.
 pub record ListsInOrder (listed : List (List Letter)) (Condition : List Letter → Type 0) : Type 0 where
   pub exactly : (s : List Letter) → List·Mem s listed ↔ Condition s
+  pub once : List·Nodup listed
   pub increasing : Pairwise Earlier listed
 
 abbrev pub StringsAreListed : Type 0

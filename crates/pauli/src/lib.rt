@@ -89,10 +89,9 @@ impl Pauli {
         ensures { λ r. ⌜ r ≡ signOf self ⌝ }
     {
         if self.has_sign(Sign::Plus) {
-            Sign::Plus
-        } else {
-            Sign::Minus
+            return Sign::Plus;
         }
+        Sign::Minus
     }
 }
 

@@ -1,5 +1,5 @@
-// Multiplies signed rows. Each line of standard input, closed by a line feed, is one or more rows with a space between them, as
-// "+XX +ZZ". For each line it writes the product of the rows from left to right, whether the last row commutes with the product of
+// Multiplies signed rows. Each line of standard input, closed by a line feed, is one or more rows of one length with a space between
+// them, as "+XX +ZZ". For each line it writes the product of the rows from left to right, whether the last row commutes with the product of
 // those before it, and the product's weight: "-YY commutes 2". A line with anything else is answered "not rows". It reads 65,536
 // bytes at most.
 use libc::STDIN_FILENO;
@@ -48,25 +48,24 @@ fn read_row(word: &[u8]) -> Row {
 }
 
 impl Line {
-    fn start() -> Line {
+    // A line with no row yet, or with a word that is none.
+    fn without(rows: bool) -> Line {
         Line {
             product: Pauli::identity(),
             commutes: true,
             width: 0,
-            rows: true,
+            rows,
         }
     }
 
     fn with(self, word: &[u8]) -> Line {
-        let before = self.product;
         let Row::Got { row, width } = read_row(word) else {
-            return Line {
-                product: before,
-                commutes: false,
-                width: 0,
-                rows: false,
-            };
+            return Line::without(false);
         };
+        if self.width != 0 && self.width != width {
+            return Line::without(false);
+        }
+        let before = self.product;
         Line {
             product: before.product(row),
             commutes: before.commutes(row),
@@ -138,14 +137,14 @@ fn main() {
 }
 
 fn print_products(text: &[u8]) {
-    let mut line = Line::start();
+    let mut line = Line::without(true);
     let mut from = 0;
     while from < text.len() {
         let end = word_end(text, from);
         line = line.with(&text[from..end]);
         if end < text.len() && text[end] == b'\n' {
             line.print();
-            line = Line::start();
+            line = Line::without(true);
         }
         from = end + 1;
     }

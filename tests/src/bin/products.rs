@@ -1,6 +1,6 @@
-//! What the program `products` has to write, by 2 by 2 matrices over the Gaussian integers: a row is a sign and a matrix for
-//! each qubit, a product is the matrices' product qubit by qubit, two rows commute where their products both ways are the same,
-//! and the weight counts the qubits whose matrix is no multiple of the unit matrix. Masks and phase counts have no part in it.
+//! What the program `products` has to write, by 2 by 2 matrices over the Gaussian integers. The letters of two rows are multiplied
+//! as matrices, qubit by qubit, and each product is read back as a unit times a letter's matrix. Two rows commute where their
+//! products both ways are the same. Masks and phase counts have no part in it.
 //!
 //! `products cases` writes the lines; `products answers` reads lines and writes an answer for each.
 
@@ -111,11 +111,6 @@ impl Tensor {
     }
 
     fn times(&self, other: &Tensor) -> Tensor {
-        assert_eq!(
-            self.letters.len(),
-            other.letters.len(),
-            "rows of one length"
-        );
         let mut product = Tensor {
             unit: self.unit.times(other.unit),
             letters: Vec::new(),
@@ -142,7 +137,11 @@ fn answer(line: &str) -> String {
     else {
         return "not rows".to_string();
     };
-    let mut product = Tensor::one(rows[0].letters.len());
+    let qubits = rows[0].letters.len();
+    if rows.iter().any(|row| row.letters.len() != qubits) {
+        return "not rows".to_string();
+    }
+    let mut product = Tensor::one(qubits);
     let mut commutes = true;
     for row in &rows {
         commutes = product.times(row) == row.times(&product);
@@ -153,7 +152,7 @@ fn answer(line: &str) -> String {
     format!("{} {word} {weight}", product.text())
 }
 
-/// Every row of n letters with either sign.
+/// Every row of n letters with each of these signs.
 fn all_rows(n: u32, signs: &[char]) -> Vec<String> {
     let mut rows: Vec<String> = signs.iter().map(|s| s.to_string()).collect();
     for _ in 0..n {
@@ -214,7 +213,7 @@ fn cases() -> Vec<String> {
             );
         }
     }
-    // not rows: a lower-case letter, no sign, no letter, 33 letters, two spaces, other bytes, nothing
+    // not rows: a lower-case letter, no sign, no letter, 33 letters, two lengths, two spaces, other bytes, nothing
     let long = format!("+{}", "X".repeat(33));
     let others = [
         "+x",
@@ -222,6 +221,8 @@ fn cases() -> Vec<String> {
         "+",
         "-",
         long.as_str(),
+        "+XX +X",
+        "-X -XX -X",
         "+X  +X",
         " +X",
         "+X ",
@@ -236,22 +237,25 @@ fn cases() -> Vec<String> {
     lines
 }
 
+fn closed(lines: Vec<String>) -> String {
+    lines.iter().map(|line| format!("{line}\n")).collect()
+}
+
 fn main() {
-    let lines = match std::env::args().nth(1).as_deref() {
-        Some("cases") => cases(),
+    let text = match std::env::args().nth(1).as_deref() {
+        // the last line is not closed, so it has no answer
+        Some("cases") => closed(cases()) + "+X +Z",
         Some("answers") => {
             let mut text = String::new();
             io::stdin()
                 .read_to_string(&mut text)
                 .expect("text on standard input");
-            text.split_inclusive('\n')
-                .filter_map(|line| line.strip_suffix('\n'))
-                .map(answer)
-                .collect()
+            let lines = text.split_inclusive('\n');
+            let closed_lines = lines.filter_map(|line| line.strip_suffix('\n'));
+            closed(closed_lines.map(answer).collect())
         }
         _ => panic!("products cases, or products answers < lines"),
     };
-    let text: String = lines.iter().map(|line| format!("{line}\n")).collect();
     io::stdout()
         .write_all(text.as_bytes())
         .expect("standard output is open");

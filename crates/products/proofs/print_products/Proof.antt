@@ -11,8 +11,8 @@ Inv-loop text line₀ from₀ line from = from ≤ length text + 1
 abbrev μ-loop : tie.MeasureT-loop
 μ-loop text line₀ from₀ line from = length text - from
 
-start-requires : tie.Need-start-requires Inv-loop μ-loop
-start-requires c κs = search needs
+without-requires : tie.Need-without-requires Inv-loop μ-loop
+without-requires c κs = search needs
 
 loop-holds : tie.Need-loop-holds Inv-loop μ-loop
 loop-holds c = search needs
@@ -38,8 +38,8 @@ shared-slice-read-if2 c = search needs
 print-requires : tie.Need-print-requires Inv-loop μ-loop
 print-requires c κs = search needs
 
-start-requires-2 : tie.Need-start-requires-2 Inv-loop μ-loop
-start-requires-2 c κs = search needs
+without-requires-2 : tie.Need-without-requires-2 Inv-loop μ-loop
+without-requires-2 c κs = search needs
 
 add-from : tie.Need-add-from Inv-loop μ-loop
 add-from c = search needs
@@ -59,7 +59,7 @@ print-products-spec =
     (tie.spec
     Inv-loop
     μ-loop
-    start-requires
+    without-requires
     loop-holds
     word-end-requires
     sub-with
@@ -68,7 +68,7 @@ print-products-spec =
     with-requires
     shared-slice-read-if2
     print-requires
-    start-requires-2
+    without-requires-2
     add-from
     loop-less
     loop-again

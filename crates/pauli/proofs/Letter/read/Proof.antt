@@ -1,5 +1,5 @@
 -- The byte is one of the four, or none of them.
-use mathlib.Core.Path.{sym, _∙_}
+use mathlib.Core.Path.{ap, sym, _∙_}
 use mathlib.Core.List.{[], _∷_}
 use Rattle.pauli.specs.declared.Letter.the-variants.{I, X, Y, Z}
 use Rattle.pauli.specs.Letters.{letterByte, readLetter}
@@ -10,19 +10,19 @@ use Rattle.pauli.proofs.Letter.read.Tie as tie
 
 returns : tie.Need-returns
 unfolding readLetter readByte firstOf
-returns c = rw (c .match .keys1)
+returns c = ap readLetter (sym (c .match .keys1))
 
 returns-2 : tie.Need-returns-2
 unfolding readLetter readByte firstOf
-returns-2 c = rw (c .match .keys2)
+returns-2 c = ap readLetter (sym (c .match .keys2))
 
 returns-3 : tie.Need-returns-3
 unfolding readLetter readByte firstOf
-returns-3 c = rw (c .match .keys3)
+returns-3 c = ap readLetter (sym (c .match .keys3))
 
 returns-4 : tie.Need-returns-4
 unfolding readLetter readByte firstOf
-returns-4 c = rw (c .match .keys4)
+returns-4 c = ap readLetter (sym (c .match .keys4))
 
 returns-5 : tie.Need-returns-5
 unfolding readLetter readByte firstOf

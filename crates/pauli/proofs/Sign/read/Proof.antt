@@ -1,5 +1,5 @@
 -- The byte is one of the two, or neither.
-use mathlib.Core.Path.{sym, _∙_}
+use mathlib.Core.Path.{ap, sym, _∙_}
 use mathlib.Core.List.{[], _∷_}
 use Rattle.pauli.specs.declared.Sign.the-variants.{Plus, Minus}
 use Rattle.pauli.specs.Letters.{signByte, readSign}
@@ -10,11 +10,11 @@ use Rattle.pauli.proofs.Sign.read.Tie as tie
 
 returns : tie.Need-returns
 unfolding readSign readByte firstOf
-returns c = rw (c .match .keys1)
+returns c = ap readSign (sym (c .match .keys1))
 
 returns-2 : tie.Need-returns-2
 unfolding readSign readByte firstOf
-returns-2 c = rw (c .match .keys2)
+returns-2 c = ap readSign (sym (c .match .keys2))
 
 returns-3 : tie.Need-returns-3
 unfolding readSign readByte firstOf

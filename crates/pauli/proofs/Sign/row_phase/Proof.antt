@@ -3,7 +3,6 @@ use mathlib.Core.Path.{ap₂, sym}
 use Prim.Native.Nat.{ℕ, _+_, _%_, _≤_}
 use borrow.Author.Needs.{needs}
 use native.Mathlib.Omega.{arith}
-use lib.Dec.{lit≤}
 use Rattle.pauli.specs.declared.Sign.{Sign}
 use Rattle.pauli.specs.declared.Sign.the-variants.{Plus, Minus}
 use Rattle.pauli.specs.Letters.{signPhase, rowPhase}
