@@ -29,7 +29,7 @@ phase-of-sign : (sign : Sign) (P : Pauli) → hasSign sign P ≡ true → rowPha
 unfolding hasSign hasPhase rowPhase
 phase-of-sign sign P h = omega (arith, eqb-true (P .p % 4) (rowPhase sign (P .a) (P .b) % 4) h)
 
-row-has-sign : (sign : Sign) (s : List Letter) → hasSign sign (signedRow sign s) ≡ true
+pub row-has-sign : (sign : Sign) (s : List Letter) → hasSign sign (signedRow sign s) ≡ true
 unfolding hasSign hasPhase signedRow rowOf
 row-has-sign sign s = let q = rowPhase sign (xMask s) (zMask s) % 4 in eq-eqb q q refl
 

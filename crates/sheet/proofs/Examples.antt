@@ -54,7 +54,8 @@ lines-named = refl
 
 -- ---- numbers in texts
 
-decimals : map decimal (0 ∷ 9 ∷ 10 ∷ 11 ∷ 100 ∷ 1024 ∷ []) ≡ bytes "0" ∷ bytes "9" ∷ bytes "10" ∷ bytes "11" ∷ bytes "100" ∷ bytes "1024" ∷ []
+decimals :
+    map decimal (0 ∷ 9 ∷ 10 ∷ 11 ∷ 100 ∷ 1024 ∷ []) ≡ map bytes ("0" ∷ "9" ∷ "10" ∷ "11" ∷ "100" ∷ "1024" ∷ [])
 unfolding opened
 decimals = refl
 
@@ -147,16 +148,16 @@ unfolding codeA opened
 written-a = refl
 
 -- The longest sheet: n = 24, r = 1.
-code24 : Code
+unfoldable pub code24 : Code
 code24 =
     codeOf 24 7 (signedRow Minus (replicate 24 Z) ∷ []) (replicate 23 (signedRow Plus (replicate 24 X)))
     (replicate 23 (signedRow Minus (replicate 24 Z))) (ofLetters (replicate 24 X))
 
-longest : length (sheetText code24) ≡ 1352
+pub longest : length (sheetText code24) ≡ 1352
 unfolding code24 opened
 longest = refl
 
-longest-returns : readForm (sheetText code24) ≡ got code24 []
+pub longest-returns : readForm (sheetText code24) ≡ got code24 []
 unfolding code24 opened
 longest-returns = refl
 
@@ -253,7 +254,8 @@ writer-writes = refl
 -- ---- the readings
 
 readings :
-    (linesReading (bytes (sheetA ⧺ "s=0001\n")) ≡ record { answer = Lines.Read 70; code = codeA })
-    × (formReading (bytes (sheetA ⧺ "s=0001\n")) ≡ record { answer = Lines.Refused (Refusal.Form 10); code = emptyCode })
+    (linesReading (bytes (sheetA ⧺ "s=0001\n")) ≡ record { answer = Lines.Read 70; next = 10; code = codeA })
+    × (formReading (bytes (sheetA ⧺ "s=0001\n"))
+    ≡ record { answer = Lines.Refused (Refusal.Form 10); next = 0; code = emptyCode })
 unfolding codeA opened
 readings = (refl, refl)

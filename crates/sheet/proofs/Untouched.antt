@@ -1,5 +1,5 @@
--- A refusal leaves the buffer as it was. Every call is `guarded`: a refusal comes from its checks, and leaves the buffer, or it would have to be the
--- call's own answer, which is none.
+-- A refusal leaves the buffer as it was. Every call is `guarded`: a refusal comes from its checks, and leaves the buffer, or
+-- it would have to be the call's own answer, which is none.
 use mathlib.Core.List.{List}
 use mathlib.Core.Option.{Option, none, some, Option·none-ne-some}
 use mathlib.Core.Path.{_≡_, refl, sym, _∙_}
@@ -19,13 +19,14 @@ module _ {A : Type 0} (refusalOf : A → Option Refusal) (buffer : List ℕ) whe
   unfolding untouched
   untouched-leaves answer = record { unchanged = λ refusal h. refl }
 
-  pub guarded-leaves : (refused : Refusal → A) (fault : Option Refusal) {after : After A} → RefusalLeaves refusalOf buffer after
-      → RefusalLeaves refusalOf buffer (guarded refused fault buffer after)
+  pub guarded-leaves : (refused : Refusal → A) (fault : Option Refusal) {after : After A}
+      → RefusalLeaves refusalOf buffer after → RefusalLeaves refusalOf buffer (guarded refused fault buffer after)
   unfolding guarded
   guarded-leaves refused none h = h
   guarded-leaves refused (some refusal) h = untouched-leaves (refused refusal)
 
-pub written-leaves : (fault : Option Refusal) (text buffer : List ℕ) → RefusalLeaves writtenRefusal buffer (written fault text buffer)
+pub written-leaves : (fault : Option Refusal) (text buffer : List ℕ)
+    → RefusalLeaves writtenRefusal buffer (written fault text buffer)
 unfolding written writtenRefusal
 written-leaves fault text buffer = guarded-leaves writtenRefusal buffer _ _ (answer-leaves writtenRefusal buffer _ refl)
 

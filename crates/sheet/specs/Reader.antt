@@ -54,12 +54,18 @@ unfoldable pub gotOr : {A : Type 0} → Refusal → Option A → List ℕ → Pa
 gotOr refusal none rest = stop refusal
 gotOr refusal (some a) rest = got a rest
 
--- A line: the key, m bytes that are a value, a line feed.
-unfoldable pub readLine : {A : Type 0} → String → ℕ → (List ℕ → Option A) → Refusal → Reader A
-readLine key m read refusal s =
-    let value = drop (length (bytes key)) s in
-    cond (begins (bytes key) s && eqb (getD value m 0) lineFeed)
-    (gotOr refusal (read (take m value)) (drop (m + 1) value)) (stop refusal)
+-- The bytes begin with the key, and behind m more there is a line feed.
+unfoldable pub isLine : List ℕ → ℕ → List ℕ → Bool
+isLine key m s = begins key s && eqb (getD (drop (length key) s) m 0) lineFeed
+
+-- A line: the key, m bytes that are a value, a line feed. The key is given by its bytes, or as a text.
+unfoldable pub lineOf : {A : Type 0} → List ℕ → ℕ → (List ℕ → Option A) → Refusal → Reader A
+lineOf key m read refusal s =
+    let value = drop (length key) s in
+    cond (isLine key m s) (gotOr refusal (read (take m value)) (drop (m + 1) value)) (stop refusal)
+
+abbrev pub readLine : {A : Type 0} → String → ℕ → (List ℕ → Option A) → Refusal → Reader A
+readLine key = lineOf (bytes key)
 
 unfoldable pub readDigit : ℕ → Option ℕ
 readDigit c = cond (between (code "0") (code "9") c) (some (c - code "0")) none
@@ -85,11 +91,13 @@ readRow (c ∷ cs) = bind (readSign c) (λ s. Option·map (signedRow s) (readEac
 unfoldable pub inRange : ℕ → ℕ → Refusal → ℕ → Reader ℕ
 inRange low high refusal m = cond (between low high m) (done m) (λ s. stop refusal)
 
+-- One digit where a line feed stands behind the first, else two.
+unfoldable pub qubitDigits : List ℕ → ℕ
+qubitDigits s = cond (eqb (getD s 3 0) lineFeed) 1 2
+
 -- 01: "`n=` one or two digits, first not 0"; 2 at line 1, then 3 where n is not 2 to 24.
 unfoldable pub qubitLine : Reader ℕ
-qubitLine s =
-    (readLine "n=" (cond (eqb (getD s 3 0) lineFeed) 1 2) readNumber (Refusal.Form 1)
-    andThen inRange 2 24 (Refusal.QubitCount 1)) s
+qubitLine s = (readLine "n=" (qubitDigits s) readNumber (Refusal.Form 1) andThen inRange 2 24 (Refusal.QubitCount 1)) s
 
 -- 01: "`d=` one digit 1 to 9"; 2 at line 2, then 4 where d is not 1 to 7.
 unfoldable pub distanceLine : Reader ℕ
@@ -150,10 +158,11 @@ nothingBehind c (b ∷ s) = stop (Refusal.Form (claimAt c + 1))
 unfoldable pub readForm : Reader Code
 readForm = readLines andThen nothingBehind
 
--- A reading as a call answers it: how many bytes were read and the record, or the refusal and the empty record.
+-- A reading as a call answers it: how many bytes were read, the number of the line behind w and the record, or the refusal and the empty
+-- record.
 unfoldable pub answered : List ℕ → Parsed Code → LinesReading
-answered s (got c rest) = record { answer = Lines.Read (length s - length rest); code = c }
-answered s (stop refusal) = record { answer = Lines.Refused refusal; code = emptyCode }
+answered s (got c rest) = record { answer = Lines.Read (length s - length rest); next = claimAt c + 1; code = c }
+answered s (stop refusal) = record { answer = Lines.Refused refusal; next = 0; code = emptyCode }
 
 -- The call on the lines of a sheet, with anything behind them, as a report reads it; and on a sheet by itself.
 unfoldable pub linesReading : List ℕ → LinesReading
@@ -161,3 +170,8 @@ linesReading s = answered s (readLines s)
 
 unfoldable pub formReading : List ℕ → LinesReading
 formReading s = answered s (readForm s)
+
+-- The part of the bytes that is behind the lines, as a report reads it on; none where they were refused.
+unfoldable pub behind : List ℕ → Lines → List ℕ
+behind s (Lines.Read used) = drop used s
+behind s (Lines.Refused refusal) = []

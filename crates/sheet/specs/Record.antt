@@ -3,6 +3,8 @@ use mathlib.Core.Bool.{Bool, not, _&&_}
 use mathlib.Core.List.{List, _++_}
 use mathlib.Core.Option.{Option}
 use Prim.Native.Nat.{ℕ, _+_, _-_, _*_, _/_, _^_}
+use Prim.Native.Char.{code}
+use Prim.Native.String.{String}
 use lib.Dec.{leb, ltb}
 use lib.ListN.{length, take, drop, replicate}
 use Rattle.pauli.specs.declared.Pauli.{Pauli}
@@ -11,6 +13,8 @@ use Rattle.pauli.specs.Product.{identity, samePauli}
 use Rattle.pauli.specs.declared.Sign.the-variants.{Plus}
 use Rattle.pauli.specs.Letters.{hasSign, isSignedRow}
 use Rattle.sheet.specs.declared.Code.{Code}
+use Rattle.sheet.specs.declared.Family.{Family}
+use Rattle.sheet.specs.declared.Family.the-variants.{Generator, LogicalX, LogicalZ}
 use Rattle.sheet.specs.declared.Refusal.{Refusal}
 use Rattle.sheet.specs.Refusals.{refuseIf}
 
@@ -30,6 +34,27 @@ logicalXs c = take (logicalCount c) (c .x)
 
 unfoldable pub logicalZs : Code → List Pauli
 logicalZs c = take (logicalCount c) (c .z)
+
+-- The rows of a family: its array in the record, how many places that has, the key of its lines, and the byte that the key begins with.
+abbrev pub rowsOf : Family → Code → List Pauli
+rowsOf Generator c = c .g
+rowsOf LogicalX c = c .x
+rowsOf LogicalZ c = c .z
+
+abbrev pub roomOf : Family → ℕ
+roomOf Generator = 32
+roomOf LogicalX = 24
+roomOf LogicalZ = 24
+
+abbrev pub rowKey : Family → String
+rowKey Generator = "g="
+rowKey LogicalX = "x="
+rowKey LogicalZ = "z="
+
+abbrev pub keyByte : Family → ℕ
+keyByte Generator = code "g"
+keyByte LogicalX = code "x"
+keyByte LogicalZ = code "z"
 
 -- The lines of a sheet count from 1: n, d, the r generators, the k X logicals, the k Z logicals, w.
 unfoldable pub generatorsAt : ℕ

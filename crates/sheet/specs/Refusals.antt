@@ -17,14 +17,14 @@ pub record Values : Type 0 where
   pub family : Option Family
   pub errors : Option ErrorPair
 
-unfoldable pub plain : ℕ → ℕ → Values
+abbrev pub plain : ℕ → ℕ → Values
 plain number line = record { number = number; line = line; family = none; errors = none }
 
 -- 01: "A refusal about a row carries its family beside the line: generator, X logical or Z logical."
-unfoldable pub ofRow : ℕ → ℕ → Family → Values
+abbrev pub ofRow : ℕ → ℕ → Family → Values
 ofRow number line family = record { number = number; line = line; family = some family; errors = none }
 
-unfoldable pub values : Refusal → Values
+abbrev pub values : Refusal → Values
 values TooLong = plain 1 0
 values (Form line) = plain 2 line
 values (QubitCount line) = plain 3 line

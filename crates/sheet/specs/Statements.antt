@@ -10,7 +10,7 @@ use Rattle.pauli.specs.Lists.{anyOf}
 use Rattle.pauli.specs.Product.{modulo4}
 use Rattle.sheet.specs.declared.Code.{Code}
 use Rattle.sheet.specs.declared.Refusal.{Refusal}
-use Rattle.sheet.specs.Reader.{got, readForm, readLines, linesReading}
+use Rattle.sheet.specs.Reader.{got, readForm, readLines, linesReading, formReading, behind}
 use Rattle.sheet.specs.Record.{withinLimits}
 use Rattle.sheet.specs.Refusals.{values, linesRefusal, writtenRefusal}
 use Rattle.sheet.specs.Text.{After}
@@ -36,6 +36,10 @@ ReadAfterWrite =
 -- Writing what was read gives the bytes that were read.
 abbrev pub WriteAfterRead : Type 0
 WriteAfterRead = (s : List ℕ) (c : Code) (rest : List ℕ) → readLines s ≡ got c rest → sheetText c ++ rest ≡ s
+
+-- The part behind the lines is what the definition leaves to be read on.
+abbrev pub RestIsBehind : Type 0
+RestIsBehind = (s : List ℕ) (c : Code) (rest : List ℕ) → readLines s ≡ got c rest → behind s (linesReading s .answer) ≡ rest
 
 -- What is read is a record within limits, as a machine holds it, with phases 0 to 3.
 pub record ReadIsLawful (c : Code) : Type 0 where
@@ -66,9 +70,11 @@ WriterRefusalsLeave = (c : Code) (buffer : List ℕ) → RefusalLeaves writtenRe
 abbrev pub Among : List ℕ → Refusal → Type 0
 Among numbers refusal = anyOf (eqb (values refusal .number)) numbers ≡ true
 
--- The numbers with which the reader of the lines and the writer refuse.
+-- The numbers with which the reader of the lines, the reader of a sheet by itself and the writer refuse.
 pub record SheetRefusalNumbers : Type 0 where
   pub lines : (s : List ℕ) (refusal : Refusal) → linesRefusal (linesReading s .answer) ≡ some refusal
+      → Among (1 ∷ 2 ∷ 3 ∷ 4 ∷ 5 ∷ []) refusal
+  pub alone : (s : List ℕ) (refusal : Refusal) → linesRefusal (formReading s .answer) ≡ some refusal
       → Among (1 ∷ 2 ∷ 3 ∷ 4 ∷ 5 ∷ []) refusal
   pub writer : (c : Code) (buffer : List ℕ) (refusal : Refusal) → writtenRefusal (writeSheet c buffer .answer) ≡ some refusal
       → Among (15 ∷ 17 ∷ []) refusal

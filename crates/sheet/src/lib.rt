@@ -1,5 +1,13 @@
 // The code sheet: the code record, the refusals, and the answers of the calls that read and write a sheet.
 use pauli::Pauli;
+use pauli::Sign;
+ghost use mathlib.Core.Path.{_≡_};
+ghost use Prim.Native.Nat.{_≤_};
+ghost use lib.ListN.{getD};
+ghost use Rattle.pauli.specs.Product.{identity, samePauli};
+ghost use Rattle.sheet.specs.Refusals.{values};
+ghost use Rattle.sheet.specs.Record.{rowsOf, roomOf, keyByte, emptyCode};
+ghost use Rattle.sheet.specs.Record.{between, onQubits, isRow, isClaim, areRows, withinLimits};
 
 // The code that a sheet describes: n qubits, r generators, claimed distance d. The first r rows of g are the generators,
 // the first n - r of x and of z the logical operators, and w is the claimed minimum-weight logical. Unused rows are +I.
@@ -13,11 +21,165 @@ pub struct Code {
     pub w: Pauli,
 }
 
-// What kind of row a refusal is about.
+impl Code {
+    // All numbers 0 and all rows +I.
+    pub fn empty() -> Code
+        ensures { λ r. ⌜ r ≡ emptyCode ⌝ }
+    {
+        let one = Pauli::identity();
+        Code {
+            n: 0,
+            r: 0,
+            d: 0,
+            g: [one; 32],
+            x: [one; 24],
+            z: [one; 24],
+            w: one,
+        }
+    }
+
+    // The row of a family at a place, which counts from 0; +I behind the array's end.
+    pub fn row(self, family: Family, place: usize) -> Pauli
+        ensures { λ r. ⌜ r ≡ getD (rowsOf family self) place identity ⌝ }
+    {
+        match family {
+            Family::Generator => {
+                if place < 32 {
+                    return self.g[place];
+                }
+            }
+            Family::LogicalX => {
+                if place < 24 {
+                    return self.x[place];
+                }
+            }
+            Family::LogicalZ => {
+                if place < 24 {
+                    return self.z[place];
+                }
+            }
+        }
+        Pauli::identity()
+    }
+
+    // Whether the record is within its limits.
+    pub fn within_limits(self) -> bool
+        ensures { λ r. ⌜ r ≡ withinLimits self ⌝ }
+    {
+        let n = self.n;
+        let r = self.r;
+        if !between(2, 24, n) {
+            return false;
+        }
+        if !between(1, n - 1, r) {
+            return false;
+        }
+        if !between(1, 7, self.d) {
+            return false;
+        }
+        if !self.are_rows(Family::Generator, r) {
+            return false;
+        }
+        let k = n - r;
+        if !self.are_rows(Family::LogicalX, k) {
+            return false;
+        }
+        if !self.are_rows(Family::LogicalZ, k) {
+            return false;
+        }
+        is_claim(self.w, n)
+    }
+
+    // Whether the first `count` rows of a family are rows of n qubits, and the others +I.
+    fn are_rows(self, family: Family, count: usize) -> bool
+        requires { ⌜ self .n ≤ 24 ⌝ }
+        ensures { λ r. ⌜ r ≡ areRows (self .n) count (rowsOf family self) ⌝ }
+    {
+        let n = self.n;
+        let room = family.room();
+        let mut place: usize = 0;
+        while place < room {
+            let p = self.row(family, place);
+            if place < count {
+                if !is_row(p, n) {
+                    return false;
+                }
+            } else if !is_identity(p) {
+                return false;
+            }
+            place += 1;
+        }
+        true
+    }
+}
+
+fn between(low: usize, high: usize, m: usize) -> bool
+    ensures { λ r. ⌜ r ≡ between low high m ⌝ }
+{
+    low <= m && m <= high
+}
+
+// Whether a Pauli has no mask bit above qubit n.
+fn on_qubits(p: Pauli, n: usize) -> bool
+    requires { ⌜ n ≤ 24 ⌝ }
+    ensures { λ r. ⌜ r ≡ onQubits n p ⌝ }
+{
+    let end = 1u32 << n;
+    p.a < end && p.b < end
+}
+
+// Whether it is a signed row of n qubits.
+fn is_row(p: Pauli, n: usize) -> bool
+    requires { ⌜ n ≤ 24 ⌝ }
+    ensures { λ r. ⌜ r ≡ isRow n p ⌝ }
+{
+    on_qubits(p, n) && p.is_signed_row()
+}
+
+// Whether it is a row of n qubits with sign +, as w is.
+fn is_claim(p: Pauli, n: usize) -> bool
+    requires { ⌜ n ≤ 24 ⌝ }
+    ensures { λ r. ⌜ r ≡ isClaim n p ⌝ }
+{
+    on_qubits(p, n) && p.has_sign(Sign::Plus)
+}
+
+// Whether it is +I.
+fn is_identity(p: Pauli) -> bool
+    ensures { λ r. ⌜ r ≡ samePauli identity p ⌝ }
+{
+    p.p % 4 == 0 && (p.a == 0 && p.b == 0)
+}
+
+// The three kinds of rows, each with its array in the record and its key in the sheet. A refusal about a row names its kind.
 pub enum Family {
     Generator,
     LogicalX,
     LogicalZ,
+}
+
+impl Family {
+    // The byte with which the key of its lines begins.
+    pub fn key(self) -> u8
+        ensures { λ r. ⌜ r ≡ keyByte self ⌝ }
+    {
+        match self {
+            Family::Generator => b'g',
+            Family::LogicalX => b'x',
+            Family::LogicalZ => b'z',
+        }
+    }
+
+    // How many places its array has.
+    fn room(self) -> usize
+        ensures { λ r. ⌜ r ≡ roomOf self ⌝ }
+    {
+        match self {
+            Family::Generator => 32,
+            Family::LogicalX => 24,
+            Family::LogicalZ => 24,
+        }
+    }
 }
 
 // The two errors that refute a claimed distance, on n qubits.
@@ -66,15 +228,69 @@ pub enum Refusal {
     ShortBuffer,
 }
 
-// The lines of a sheet were read, and took so many bytes; or they were refused.
+impl Refusal {
+    // Document 01's number.
+    pub fn number(self) -> u32
+        ensures { λ r. ⌜ r ≡ (values self) .number ⌝ }
+    {
+        match self {
+            Refusal::TooLong => 1,
+            Refusal::Form(_) => 2,
+            Refusal::QubitCount(_) => 3,
+            Refusal::DistanceRange(_) => 4,
+            Refusal::GeneratorCount(_) => 5,
+            Refusal::GeneratorsAnticommute(_, _) => 6,
+            Refusal::MinusIdentity(_, _) => 7,
+            Refusal::DependentGenerator(_, _) => 8,
+            Refusal::LogicalAnticommutes(_, _) => 9,
+            Refusal::LogicalPairing(_, _) => 10,
+            Refusal::ClaimedWeight(_) => 11,
+            Refusal::ClaimedAnticommutes(_) => 12,
+            Refusal::ClaimedInGroup(_) => 13,
+            Refusal::DistanceRefuted(_, _) => 14,
+            Refusal::RecordLimits => 15,
+            Refusal::Syndrome(_) => 16,
+            Refusal::ShortBuffer => 17,
+        }
+    }
+
+    // The line named, 0 for none.
+    pub fn line(self) -> usize
+        ensures { λ r. ⌜ r ≡ (values self) .line ⌝ }
+    {
+        match self {
+            Refusal::TooLong => 0,
+            Refusal::Form(line) => line,
+            Refusal::QubitCount(line) => line,
+            Refusal::DistanceRange(line) => line,
+            Refusal::GeneratorCount(line) => line,
+            Refusal::GeneratorsAnticommute(line, _) => line,
+            Refusal::MinusIdentity(line, _) => line,
+            Refusal::DependentGenerator(line, _) => line,
+            Refusal::LogicalAnticommutes(line, _) => line,
+            Refusal::LogicalPairing(line, _) => line,
+            Refusal::ClaimedWeight(line) => line,
+            Refusal::ClaimedAnticommutes(line) => line,
+            Refusal::ClaimedInGroup(line) => line,
+            Refusal::DistanceRefuted(line, _) => line,
+            Refusal::RecordLimits => 0,
+            Refusal::Syndrome(line) => line,
+            Refusal::ShortBuffer => 0,
+        }
+    }
+}
+
+// One or more lines of a sheet were read, and took so many bytes; or they were refused.
 pub enum Lines {
     Read { used: usize },
     Refused(Refusal),
 }
 
-// An enum holds no array, so the record stands beside the answer: all numbers 0 and all rows +I where it is a refusal.
+// An enum holds no array, so the record stands beside the answer: all numbers 0 and all rows +I where it is a refusal. `next` is the number of
+// the line behind w, 0 where it is a refusal.
 pub struct LinesReading {
     pub answer: Lines,
+    pub next: usize,
     pub code: Code,
 }
 

@@ -1,0 +1,19 @@
+-- An array of one value is that value, written out as often as the array has places.
+use mathlib.Core.Path.{ap}
+use lib.ListN.{replicate}
+use Rattle.sheet.specs.Record.{emptyCode}
+use borrow.Author.Needs.{needs}
+use Rattle.sheet.proofs.Code.empty.Statement.{statement}
+use Rattle.sheet.proofs.Code.empty.Tie as tie
+
+identity-requires : tie.Need-identity-requires
+identity-requires c κs = search needs
+
+returns : tie.Need-returns
+unfolding emptyCode
+returns c =
+    ap (λ one. record { n = 0; r = 0; d = 0; g = replicate 32 one; x = replicate 24 one; z = replicate 24 one; w = one })
+    (c .identity .ensures)
+
+pub empty-spec : {M : Type 1} → statement M
+empty-spec = tie.close (tie.spec identity-requires returns)

@@ -1,0 +1,161 @@
+-- Each limit is tried in turn; the first that is broken decides. Behind each that holds, `code..` is the record and `held..` what the test says.
+use mathlib.Core.Bool.{true}
+use mathlib.Core.Path.{_≡_, _∙_}
+use Prim.Native.Nat.{_-_, _≤_}
+use native.Mathlib.Omega.{arith}
+use Rattle.sheet.specs.declared.Code.{Code}
+use Rattle.sheet.specs.Record.{between, areRows, logicalCount}
+use Rattle.sheet.proofs.Limits.{between-bounds, outside, claim-decides}
+use Rattle.sheet.proofs.RowLimits.{passed, failed}
+use borrow.Author.Needs.{needs}
+use Rattle.sheet.proofs.Code.within_limits.Statement.{statement}
+use Rattle.sheet.proofs.Code.within_limits.Tie as tie
+
+-- ---- n
+
+abbrev codeN : tie.Else1 → Code
+codeN c = c .before .before .args .self
+
+heldN : (c : tie.Else1) → between 2 24 (codeN c .n) ≡ true
+heldN c = passed (c .before .between .ensures) (c .if1 .left)
+
+most : (c : tie.Else1) → codeN c .n ≤ 24
+most c = between-bounds _ _ _ (heldN c) .1
+
+-- ---- r
+
+abbrev nOfR : tie.Else2 → tie.Else1
+nOfR c = c .before .before
+
+abbrev codeR : tie.Else2 → Code
+codeR c = codeN (nOfR c)
+
+heldR : (c : tie.Else2) → between 1 (codeR c .n - 1) (codeR c .r) ≡ true
+heldR c = passed (c .before .between2 .ensures) (c .if2 .left)
+
+-- ---- d
+
+abbrev rOfD : tie.Else3 → tie.Else2
+rOfD c = c .before .before
+
+abbrev codeD : tie.Else3 → Code
+codeD c = codeR (rOfD c)
+
+heldD : (c : tie.Else3) → between 1 7 (codeD c .d) ≡ true
+heldD c = passed (c .before .between3 .ensures) (c .if3 .left)
+
+-- ---- the g rows
+
+abbrev dOfG : tie.Else4 → tie.Else3
+dOfG c = c .before .before
+
+abbrev codeG : tie.Else4 → Code
+codeG c = codeD (dOfG c)
+
+heldG : (c : tie.Else4) → areRows (codeG c .n) (codeG c .r) (codeG c .g) ≡ true
+heldG c = passed (c .before .are-rows .ensures) (c .if4 .left)
+
+-- ---- the x rows
+
+abbrev gOfX : tie.Else5 → tie.Else4
+gOfX c = c .before .before
+
+abbrev codeX : tie.Else5 → Code
+codeX c = codeG (gOfX c)
+
+heldX : (c : tie.Else5) → areRows (codeX c .n) (logicalCount (codeX c)) (codeX c .x) ≡ true
+unfolding logicalCount
+heldX c = passed (c .before .are-rows2 .ensures) (c .if5 .left)
+
+-- ---- the z rows
+
+abbrev xOfZ : tie.Else6 → tie.Else5
+xOfZ c = c .before .before
+
+abbrev codeZ : tie.Else6 → Code
+codeZ c = codeX (xOfZ c)
+
+heldZ : (c : tie.Else6) → areRows (codeZ c .n) (logicalCount (codeZ c)) (codeZ c .z) ≡ true
+unfolding logicalCount
+heldZ c = passed (c .before .are-rows3 .ensures) (c .if6 .left)
+
+-- ---- the needs
+
+between-requires : tie.Need-between-requires
+between-requires c κs = search needs
+
+returns : tie.Need-returns
+returns c = outside (c .before .before .args .self) (failed (c .before .between .ensures) (c .if1 .taken)) (λ tests. tests .qubits)
+
+sub-between : tie.Need-sub-between
+sub-between c = omega (arith, between-bounds _ _ _ (heldN c))
+
+between-requires-2 : tie.Need-between-requires-2
+between-requires-2 c κs = search needs
+
+returns-2 : tie.Need-returns-2
+returns-2 c =
+    outside (codeN (c .before .before)) (failed (c .before .between2 .ensures) (c .if2 .taken)) (λ tests. tests .generatorCount)
+
+between-requires-3 : tie.Need-between-requires-3
+between-requires-3 c κs = search needs
+
+returns-3 : tie.Need-returns-3
+returns-3 c = outside (codeR (c .before .before)) (failed (c .before .between3 .ensures) (c .if3 .taken)) (λ tests. tests .distance)
+
+are-rows-requires : tie.Need-are-rows-requires
+are-rows-requires c κs = most (nOfR (rOfD c))
+
+returns-4 : tie.Need-returns-4
+returns-4 c =
+    outside (codeD (c .before .before)) (failed (c .before .are-rows .ensures) (c .if4 .taken)) (λ tests. tests .generatorRows)
+
+sub-k : tie.Need-sub-k
+sub-k c = omega (arith, between-bounds _ _ _ (heldR (rOfD (dOfG c))))
+
+are-rows-requires-2 : tie.Need-are-rows-requires-2
+are-rows-requires-2 c κs = most (nOfR (rOfD (dOfG c)))
+
+returns-5 : tie.Need-returns-5
+unfolding logicalCount
+returns-5 c = outside (codeG (c .before .before)) (failed (c .before .are-rows2 .ensures) (c .if5 .taken)) (λ tests. tests .xRows)
+
+are-rows-requires-3 : tie.Need-are-rows-requires-3
+are-rows-requires-3 c κs = most (nOfR (rOfD (dOfG (gOfX c))))
+
+returns-6 : tie.Need-returns-6
+unfolding logicalCount
+returns-6 c = outside (codeX (c .before .before)) (failed (c .before .are-rows3 .ensures) (c .if6 .taken)) (λ tests. tests .zRows)
+
+is-claim-requires : tie.Need-is-claim-requires
+is-claim-requires c κs = most (nOfR (rOfD (dOfG (gOfX (xOfZ c)))))
+
+returns-7 : tie.Need-returns-7
+returns-7 c =
+    let z = c .before in
+    let x = xOfZ z in
+    let g = gOfX x in
+    let d = dOfG g in
+    let r = rOfD d in
+    c .is-claim .ensures ∙ claim-decides (codeZ z) (heldN (nOfR r)) (heldR r) (heldD d) (heldG g) (heldX x) (heldZ z)
+
+pub within-limits-spec : {M : Type 1} → statement M
+within-limits-spec =
+    tie.close
+    (tie.spec
+    between-requires
+    returns
+    sub-between
+    between-requires-2
+    returns-2
+    between-requires-3
+    returns-3
+    are-rows-requires
+    returns-4
+    sub-k
+    are-rows-requires-2
+    returns-5
+    are-rows-requires-3
+    returns-6
+    is-claim-requires
+    returns-7)

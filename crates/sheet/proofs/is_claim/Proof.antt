@@ -1,0 +1,24 @@
+-- The masks are tried first, then the sign.
+use mathlib.Core.Path.{sym, _∙_}
+use Rattle.sheet.specs.Record.{isClaim}
+use Rattle.sheet.proofs.RowLimits.{and-true-l, and-false-l}
+use borrow.Author.Needs.{needs}
+use Rattle.sheet.proofs.is_claim.Statement.{statement}
+use Rattle.sheet.proofs.is_claim.Tie as tie
+
+on-qubits-requires : tie.Need-on-qubits-requires
+on-qubits-requires c κs = search needs
+
+has-sign-requires : tie.Need-has-sign-requires
+has-sign-requires c κs = search needs
+
+returns : tie.Need-returns
+unfolding isClaim
+returns c = c .has-sign .ensures ∙ and-true-l _ (sym (c .before .before .on-qubits .ensures) ∙ c .before .if1 .taken)
+
+returns-2 : tie.Need-returns-2
+unfolding isClaim
+returns-2 c = c .before .on-qubits .ensures ∙ and-false-l _ (sym (c .before .on-qubits .ensures) ∙ c .if1 .left)
+
+pub is-claim-spec : {M : Type 1} → statement M
+is-claim-spec = tie.close (tie.spec on-qubits-requires has-sign-requires returns returns-2)

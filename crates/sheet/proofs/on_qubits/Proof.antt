@@ -1,0 +1,33 @@
+-- The two masks are tried in turn.
+use mathlib.Core.Bool.{_&&_}
+use mathlib.Core.Path.{ap, _∙_}
+use borrow.Author.Tests.{lt-ltb, le-ltb}
+use lib.Dec.{ltb}
+use Rattle.sheet.specs.Record.{onQubits}
+use Rattle.sheet.proofs.RowLimits.{and-true-l, and-false-l, shifted-one}
+use borrow.Author.Needs.{needs}
+use Rattle.sheet.proofs.on_qubits.Statement.{statement}
+use Rattle.sheet.proofs.on_qubits.Tie as tie
+
+cast-end : tie.Need-cast-end
+cast-end c = search needs
+
+shl-end : tie.Need-shl-end
+shl-end c = search needs
+
+returns : tie.Need-returns
+unfolding onQubits
+returns c =
+    let P = c .before .before .before .args .p in
+    and-true-l (ltb (P .b) _) (lt-ltb (P .a) _ (c .before .if1 .taken))
+    ∙ ap (λ end. ltb (P .a) end && ltb (P .b) end) (shifted-one (c .before .before .before .args .n) (c .before .before .before .pre))
+
+returns-2 : tie.Need-returns-2
+unfolding onQubits
+returns-2 c =
+    let P = c .before .before .args .p in
+    and-false-l (ltb (P .b) _) (le-ltb (P .a) _ (c .if1 .left))
+    ∙ ap (λ end. ltb (P .a) end && ltb (P .b) end) (shifted-one (c .before .before .args .n) (c .before .before .pre))
+
+pub on-qubits-spec : {M : Type 1} → statement M
+on-qubits-spec = tie.close (tie.spec cast-end shl-end returns returns-2)
