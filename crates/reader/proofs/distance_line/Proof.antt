@@ -1,0 +1,49 @@
+-- The key, the number's form, and then its range.
+use mathlib.Core.Path.{_≡_, ap, sym, _∙_}
+use Prim.Native.Char.{code}
+use native.Mathlib.Omega.{arith}
+use borrow.Author.Needs.{needs}
+use Rattle.reader.specs.Answers.{keyOf, keyBytes, numberLine}
+use Rattle.reader.proofs.Lines.{other-key, line-off-form, then-stop, distance-line-form, reads-refused, reads-as}
+use Rattle.reader.proofs.distance_line.Statement.{statement}
+use Rattle.reader.proofs.distance_line.Tie as tie
+
+key-is : (c : tie.At-match-keys1) → keyOf (c .before .before .before .args .s .now) ≡ code "d"
+key-is c = sym (c .before .key-of .ensures) ∙ c .match .keys1
+
+key-of-requires : tie.Need-key-of-requires
+key-of-requires c κs = search needs
+
+refused-requires : tie.Need-refused-requires
+refused-requires c κs = search needs
+
+returns : tie.Need-returns
+returns c =
+    let found = c .before .before in
+    reads-refused (c .refused .ensures)
+    (distance-line-form _
+    ∙ then-stop _ (line-off-form _ _ _ _ _ (other-key (code "d") _ _ (omega arith) (λ e. c .before .match .rest .1 (found .key-of .ensures ∙ e)))))
+
+number-line-requires : tie.Need-number-line-requires
+number-line-requires c κs = let key = key-is c in (omega arith, (omega arith, omega arith))
+
+in-range-requires : tie.Need-in-range-requires
+in-range-requires c κs = search needs
+
+returns-2 : tie.Need-returns-2
+returns-2 c =
+    let behind = c .before .before in
+    let s = behind .before .before .before .args .s .now in
+    reads-as (sym (distance-line-form s))
+    (c .in-range .ensures s _ (reads-as (ap (λ k. numberLine (keyBytes k) 1 2 s) (key-is behind)) (c .before .number-line .ensures)))
+
+pub distance-line-spec : {M : Type 1} → statement M
+distance-line-spec =
+    tie.close
+    (tie.spec
+    key-of-requires
+    refused-requires
+    returns
+    number-line-requires
+    in-range-requires
+    returns-2)

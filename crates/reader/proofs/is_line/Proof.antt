@@ -1,0 +1,36 @@
+-- The byte behind the value decides; where there is none, there is no line.
+use mathlib.Core.Path.{ap, sym, _∙_}
+use Prim.Native.Nat.{_+_}
+use borrow.Author.Needs.{needs}
+use borrow.Author.Tests.{le-ltb}
+use lib.Dec.{eqb}
+use lib.ListN.{length, List·getD-eq-default}
+use Rattle.reader.proofs.Lines.{line-feed-decides}
+use Rattle.reader.proofs.is_line.Statement.{statement}
+use Rattle.reader.proofs.is_line.Tie as tie
+
+add-if1 : tie.Need-add-if1
+add-if1 c = search needs
+
+-- src/lib.rt:54:26
+add-result : tie.Need-add-result
+add-result c = search needs
+
+-- src/lib.rt:54:24
+shared-slice-read-result : tie.Need-shared-slice-read-result
+shared-slice-read-result c = search needs
+
+-- src/lib.rt:49:1
+returns : tie.Need-returns
+returns c = let first = c .before .before in sym (line-feed-decides (first .args .m) (first .args .s .now) (first .pre .0))
+
+-- src/lib.rt:49:1
+returns-2 : tie.Need-returns-2
+returns-2 c =
+    let first = c .before in
+    let s = first .args .s .now in
+    le-ltb (first .args .m + 2) (length s) (c .if1 .left) ∙ ap (λ x. eqb x 10) (sym (List·getD-eq-default s 0 (c .if1 .left)))
+    ∙ sym (line-feed-decides (first .args .m) s (first .pre .0))
+
+pub is-line-spec : {M : Type 1} → statement M
+is-line-spec = tie.close (tie.spec add-if1 add-result shared-slice-read-result returns returns-2)

@@ -1,0 +1,264 @@
+-- n, d, the g lines and what follows them in turn; each that is refused ends it. What is known behind each line has a name.
+use mathlib.Core.List.{List}
+use mathlib.Core.Path.{_≡_}
+use Prim.Native.Nat.{ℕ, _+_}
+use native.Mathlib.Nat.{lt-of-le-of-lt}
+use borrow.Author.Needs.{needs}
+use lib.ListN.{drop}
+use Rattle.pauli.specs.declared.Pauli.{Pauli}
+use Rattle.sheet.specs.declared.Code.{Code}
+use Rattle.sheet.specs.Reader.{Reader, qubitLine, distanceLine, allGeneratorLines, linesAfter, sheetLines}
+use Rattle.sheet.proofs.Outcome.{what-was-got}
+use Rattle.sheet.proofs.Consumed.{qubit-line-outcome}
+use Rattle.reader.specs.Answers.{Reads, ReadsSheet, mapped, countedRows}
+use Rattle.reader.proofs.Lines.{Reached, was-read, was-refused, on-tail, reached-more}
+use Rattle.reader.proofs.Sheets.{n-refused, d-refused, g-refused, g-read, sheet-refused, sheet-on-tail, sheet-refused-behind, sheet-read-behind}
+use Rattle.reader.proofs.sheet_lines.Statement.{statement}
+use Rattle.reader.proofs.sheet_lines.Tie as tie
+
+-- ---- n
+
+abbrev start : tie.After-answer → tie.Start
+start c = c .before .before .before .before
+
+abbrev s : tie.After-answer → List ℕ
+s c = start c .args .s .now
+
+abbrev to-d : tie.After-answer → ℕ
+to-d c = c .answer .given .0 .0
+
+abbrev n : tie.After-answer → ℕ
+n c = c .before .before .qubit-line .result .number
+
+n-read : (c : tie.After-answer) → Reached (s c) (to-d c) (n c) (qubitLine (s c))
+n-read c = was-read (c .before .before .qubit-line .ensures) (c .answer .given .1)
+
+-- ---- d
+
+abbrev behind-n : tie.After-distance-line → tie.After-answer
+behind-n c = c .before .before .before
+
+abbrev d : tie.After-distance-line → ℕ
+d c = c .distance-line .result .number
+
+d-answer : (c : tie.After-distance-line)
+    → Reads (drop (to-d (behind-n c)) (s (behind-n c))) (c .distance-line .result .answer) (d c) (distanceLine (drop (to-d (behind-n c)) (s (behind-n c))))
+d-answer c = on-tail distanceLine (to-d (behind-n c)) (s (behind-n c)) (c .distance-line .ensures)
+
+abbrev n-of-d : tie.After-answer2 → tie.After-answer
+n-of-d c = behind-n (c .before .before)
+
+abbrev to-g : tie.After-answer2 → ℕ
+to-g c = to-d (n-of-d c) + c .answer2 .given .0 .0
+
+d-read : (c : tie.After-answer2)
+    → Reached (s (n-of-d c)) (to-g c) (d (c .before .before)) (distanceLine (drop (to-d (n-of-d c)) (s (n-of-d c))))
+d-read c = reached-more (n-read (n-of-d c) .within) (d-answer (c .before .before)) (c .answer2 .given .1)
+
+-- ---- the g lines
+
+abbrev behind-d : tie.After-generator-lines → tie.After-answer2
+behind-d c = c .before .before .before
+
+abbrev bytes-g : tie.After-generator-lines → List ℕ
+bytes-g c = drop (to-g (behind-d c)) (s (n-of-d (behind-d c)))
+
+abbrev held : tie.After-generator-lines → ℕ × List Pauli
+held c = (c .generator-lines .result .count, c .generator-lines .result .rows)
+
+g-answer : (c : tie.After-generator-lines)
+    → Reads (bytes-g c) (c .generator-lines .result .answer) (held c) (mapped countedRows (allGeneratorLines (n (n-of-d (behind-d c))) (bytes-g c)))
+g-answer c =
+    on-tail (λ t. mapped countedRows (allGeneratorLines (n (n-of-d (behind-d c))) t)) (to-g (behind-d c)) (s (n-of-d (behind-d c)))
+    (c .generator-lines .ensures .1)
+
+abbrev d-of-g : tie.After-answer3 → tie.After-answer2
+d-of-g c = behind-d (c .before .before)
+
+abbrev n-of-g : tie.After-answer3 → tie.After-answer
+n-of-g c = n-of-d (d-of-g c)
+
+abbrev to-x : tie.After-answer3 → ℕ
+to-x c = to-g (d-of-g c) + c .answer3 .given .0 .0
+
+generators-read : (c : tie.After-answer3)
+    → Reached (s (n-of-g c)) (to-x c) (held (c .before .before)) (mapped countedRows (allGeneratorLines (n (n-of-g c)) (bytes-g (c .before .before))))
+generators-read c = reached-more (d-read (d-of-g c) .within) (g-answer (c .before .before)) (c .answer3 .given .1)
+
+-- ---- what follows
+
+abbrev bytes-x : tie.After-answer3 → List ℕ
+bytes-x c = drop (to-x c) (s (n-of-g c))
+
+abbrev tail : tie.After-answer3 → List Pauli → Reader Code
+tail c gs = linesAfter (n (n-of-g c)) (d (d-of-g c .before .before)) gs
+
+to-tail : (c : tie.After-answer3) → (gs : List Pauli) × (countedRows gs ≡ held (c .before .before)) × (sheetLines (s (n-of-g c)) ≡ tail c gs (bytes-x c))
+to-tail c = g-read (s (n-of-g c)) (n-read (n-of-g c) .gives) (d-read (d-of-g c) .gives) (generators-read c .gives)
+
+abbrev behind-g : tie.After-lines-after → tie.After-answer3
+behind-g c = c .before .before .before
+
+tail-reading : (c : tie.After-lines-after)
+    → ReadsSheet (bytes-x (behind-g c)) (c .lines-after .result) (tail (behind-g c) (to-tail (behind-g c) .0) (bytes-x (behind-g c)))
+tail-reading c =
+    let gs = to-tail (behind-g c) in
+    sheet-on-tail (tail (behind-g c) (gs .0)) (to-x (behind-g c)) (s (n-of-g (behind-g c))) (c .lines-after .ensures (gs .0) (gs .1))
+
+-- ---- the needs
+
+qubit-line-requires : tie.Need-qubit-line-requires
+qubit-line-requires c κs = search needs
+
+enum-known-answer : tie.Need-enum-known-answer
+enum-known-answer c = search needs
+
+enum-told : tie.Need-enum-told
+enum-told c = search needs
+
+refused-requires : tie.Need-refused-requires
+refused-requires c κs = search needs
+
+returns : tie.Need-returns
+returns c =
+    sheet-refused (c .refused .ensures) (c .before .enum-told .given .1)
+    (n-refused _ (was-refused (c .before .before .before .qubit-line .ensures) (c .before .enum-told .given .1)))
+
+sub-distance-line : tie.Need-sub-distance-line
+sub-distance-line c = n-read (c .before) .within
+
+part-distance-line-start : tie.Need-part-distance-line-start
+part-distance-line-start c = n-read (c .before) .within
+
+part-distance-line-end : tie.Need-part-distance-line-end
+part-distance-line-end c = search needs
+
+distance-line-requires : tie.Need-distance-line-requires
+distance-line-requires c κs = search needs
+
+enum-known-answer-2 : tie.Need-enum-known-answer-2
+enum-known-answer-2 c = search needs
+
+enum-told-2 : tie.Need-enum-told-2
+enum-told-2 c = search needs
+
+refused-requires-2 : tie.Need-refused-requires-2
+refused-requires-2 c κs = search needs
+
+returns-2 : tie.Need-returns-2
+returns-2 c =
+    sheet-refused (c .refused2 .ensures) (c .before .enum-told2 .given .1)
+    (d-refused _ (n-read (behind-n (c .before .before .before)) .gives)
+    (was-refused (d-answer (c .before .before .before)) (c .before .enum-told2 .given .1)))
+
+add-to-g : tie.Need-add-to-g
+add-to-g c = record { fits = lt-of-le-of-lt (d-read (c .before) .within) (start (n-of-d (c .before)) .good .0 .0) }
+
+sub-generator-lines : tie.Need-sub-generator-lines
+sub-generator-lines c = d-read (c .before) .within
+
+part-generator-lines-start : tie.Need-part-generator-lines-start
+part-generator-lines-start c = d-read (c .before) .within
+
+part-generator-lines-end : tie.Need-part-generator-lines-end
+part-generator-lines-end c = search needs
+
+generator-lines-requires : tie.Need-generator-lines-requires
+generator-lines-requires c κs = let behind = n-of-d (c .before .before) in what-was-got (qubit-line-outcome (s behind)) (n-read behind .gives) .lawful
+
+enum-known-answer-3 : tie.Need-enum-known-answer-3
+enum-known-answer-3 c = search needs
+
+enum-told-3 : tie.Need-enum-told-3
+enum-told-3 c = search needs
+
+refused-requires-3 : tie.Need-refused-requires-3
+refused-requires-3 c κs = search needs
+
+returns-3 : tie.Need-returns-3
+returns-3 c =
+    let found = c .before .before .before in
+    sheet-refused (c .refused3 .ensures) (c .before .enum-told3 .given .1)
+    (g-refused _ (n-read (n-of-d (behind-d found)) .gives) (d-read (behind-d found) .gives)
+    (was-refused (g-answer found) (c .before .enum-told3 .given .1)))
+
+add-to-x : tie.Need-add-to-x
+add-to-x c = record { fits = lt-of-le-of-lt (generators-read (c .before) .within) (start (n-of-g (c .before)) .good .0 .0) }
+
+sub-lines-after : tie.Need-sub-lines-after
+sub-lines-after c = generators-read (c .before) .within
+
+part-lines-after-start : tie.Need-part-lines-after-start
+part-lines-after-start c = generators-read (c .before) .within
+
+part-lines-after-end : tie.Need-part-lines-after-end
+part-lines-after-end c = search needs
+
+lines-after-requires : tie.Need-lines-after-requires
+lines-after-requires c κs =
+    let behind = n-of-g (c .before .before) in
+    (what-was-got (qubit-line-outcome (s behind)) (n-read behind .gives) .lawful .1, c .before .before .before .before .generator-lines .ensures .0)
+
+enum-known-answer-4 : tie.Need-enum-known-answer-4
+enum-known-answer-4 c = search needs
+
+enum-told-4 : tie.Need-enum-told-4
+enum-told-4 c = search needs
+
+returns-4 : tie.Need-returns-4
+returns-4 c =
+    let found = c .before .before in
+    sheet-refused-behind (to-x (behind-g found)) _ (tail-reading found) (to-tail (behind-g found) .2) (c .enum-told4 .given .1)
+
+add-t19 : tie.Need-add-t19
+add-t19 c =
+    let found = c .before .before .before .before in
+    let behind = behind-g found in
+    record {
+      fits =
+          lt-of-le-of-lt (reached-more (generators-read behind .within) (tail-reading found .reads) (c .before .before .answer4 .given .1) .within)
+          (start (n-of-g behind) .good .0 .0);
+    }
+
+returns-5 : tie.Need-returns-5
+returns-5 c =
+    let found = c .before .before .before .before in
+    let behind = behind-g found in
+    sheet-read-behind (to-x behind) _ (tail-reading found) (to-tail behind .2) (generators-read behind .within) (c .before .before .answer4 .given .1)
+
+pub sheet-lines-spec : {M : Type 1} → statement M
+sheet-lines-spec =
+    tie.close
+    (tie.spec
+    qubit-line-requires
+    enum-known-answer
+    enum-told
+    refused-requires
+    returns
+    sub-distance-line
+    part-distance-line-start
+    part-distance-line-end
+    distance-line-requires
+    enum-known-answer-2
+    enum-told-2
+    refused-requires-2
+    returns-2
+    add-to-g
+    sub-generator-lines
+    part-generator-lines-start
+    part-generator-lines-end
+    generator-lines-requires
+    enum-known-answer-3
+    enum-told-3
+    refused-requires-3
+    returns-3
+    add-to-x
+    sub-lines-after
+    part-lines-after-start
+    part-lines-after-end
+    lines-after-requires
+    enum-known-answer-4
+    enum-told-4
+    returns-4
+    add-t19
+    returns-5)
