@@ -1,0 +1,5 @@
+-- The laws that the proofs of the functions share.
+pub mod Laid
+pub mod Lines
+pub mod Rows
+pub mod Sheet

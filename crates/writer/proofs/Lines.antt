@@ -1,0 +1,120 @@
+-- The texts of single lines, as the code writes them, from the front.
+use mathlib.Core.List.{List, [], _∷_, _++_}
+use mathlib.Core.Path.{_≡_, refl, ap, sym, _∙_}
+use Prim.Native.Nat.{ℕ, _+_, _*_, _/_, _%_, _≤_, _<_}
+use native.Mathlib.Numerals.{add-one}
+use native.Mathlib.Omega.{arith}
+use lib.ListN.{length, take, set, getD, length-append, length-set, List·getD-map}
+use lib.Seq.{take-suc, take-all, length-take-le, sets, length-sets}
+use Rattle.pauli.specs.declared.Letter.the-variants.{I}
+use Rattle.pauli.specs.declared.Pauli.{Pauli}
+use Rattle.pauli.specs.Letters.{letterByte, letterText, letterOn, lettersOf, rowText, signByte, signOf}
+use Rattle.pauli.specs.Lists.{bytes}
+use Rattle.pauli.proofs.Letters.{letters-at}
+use Rattle.sheet.specs.declared.Code.{Code}
+use Rattle.sheet.specs.declared.Family.{Family}
+use Rattle.sheet.specs.declared.Family.the-variants.{Generator, LogicalX, LogicalZ}
+use Rattle.sheet.specs.Record.{keyByte, rowKey, rowsOf}
+use Rattle.sheet.specs.Text.{laid, line, lineFeed}
+use Rattle.sheet.proofs.Lengths.{length-letterText, length-line, length-rowLine, length-rowLines, decimal-one, decimal-two}
+use Rattle.writer.specs.Lines.{numberText, rowLineText, claimText, familyText}
+use Rattle.writer.proofs.Laid.{length-laid, sets-laid, set-laid, lent, back, length-back, back-laid}
+
+-- ---- letters
+
+letter-at : (n place : ℕ) (P : Pauli) → place < n → getD (letterText n P) place (letterByte I) ≡ letterByte (letterOn place P)
+unfolding letterText
+letter-at n place P h = List·getD-map letterByte (lettersOf n P) place I ∙ ap letterByte (letters-at n place P h)
+
+-- One more letter of n.
+letters-more : (n place : ℕ) (P : Pauli) → place < n
+    → take place (letterText n P) ++ letterByte (letterOn place P) ∷ [] ≡ take (place + 1) (letterText n P)
+letters-more n place P h =
+    ap (λ (x : ℕ). take place (letterText n P) ++ x ∷ []) (sym (letter-at n place P h))
+    ∙ sym (take-suc (letterText n P) place _ (omega (arith, length-letterText n P)))
+    ∙ ap (λ (i : ℕ). take i (letterText n P)) (sym (add-one place))
+
+pub length-letters-laid : (n place : ℕ) (P : Pauli) (buffer : List ℕ) → place ≤ n → n ≤ length buffer
+    → length (laid (take place (letterText n P)) buffer) ≡ length buffer
+length-letters-laid n place P buffer h room =
+    let long = length-take-le place (letterText n P) (omega (arith, length-letterText n P)) in
+    length-laid (take place (letterText n P)) buffer (omega arith)
+
+pub letter-laid : (n place : ℕ) (P : Pauli) (buffer : List ℕ) → place < n → n ≤ length buffer
+    → set (laid (take place (letterText n P)) buffer) place (letterByte (letterOn place P)) ≡ laid (take (place + 1) (letterText n P)) buffer
+letter-laid n place P buffer h room =
+    let long = length-take-le place (letterText n P) (omega (arith, length-letterText n P)) in
+    set-laid (take place (letterText n P)) buffer place _ (sym long) (omega arith)
+    ∙ ap (λ (text : List ℕ). laid text buffer) (letters-more n place P h)
+
+pub letters-whole : (n place : ℕ) (P : Pauli) → n ≤ place → take place (letterText n P) ≡ letterText n P
+letters-whole n place P h = take-all place (letterText n P) (omega (arith, length-letterText n P))
+
+-- ---- numbers
+
+pub number-one : (key m : ℕ) → m < 10 → numberText key m ≡ key ∷ 61 ∷ (48 + m) ∷ 10 ∷ []
+unfolding numberText lineFeed
+number-one key m h = ap (λ (s : List ℕ). key ∷ 61 ∷ s ++ 10 ∷ []) (decimal-one m h)
+
+pub number-two : (key m : ℕ) → 10 ≤ m → m < 100 → numberText key m ≡ key ∷ 61 ∷ (48 + m / 10) ∷ (48 + m % 10) ∷ 10 ∷ []
+unfolding numberText lineFeed
+number-two key m low high = ap (λ (s : List ℕ). key ∷ 61 ∷ s ++ 10 ∷ []) (decimal-two m low high)
+
+-- The key has room.
+pub number-room : (key m : ℕ) → 2 ≤ length (numberText key m)
+unfolding numberText
+number-room key m = omega arith
+
+-- ---- rows
+
+-- A line's first bytes are stored, then the letters are laid behind them, then the line feed.
+module _ (front buffer part : List ℕ) where
+  pub length-behind : length part ≡ length (lent (length front) (sets buffer 0 front))
+      → length (back (length front) (sets buffer 0 front) part) ≡ length buffer
+  length-behind kept = length-back (length front) (sets buffer 0 front) part kept ∙ length-sets buffer 0 front
+
+  pub length-ended : (end : ℕ) → length part ≡ length (lent (length front) (sets buffer 0 front))
+      → length (set (back (length front) (sets buffer 0 front) part) end 10) ≡ length buffer
+  length-ended end kept = length-set (back (length front) (sets buffer 0 front) part) end 10 ∙ length-behind kept
+
+  pub letters-line : (n end : ℕ) (P : Pauli) → length front + n < length buffer → end ≡ length front + n
+      → part ≡ laid (letterText n P) (lent (length front) (sets buffer 0 front))
+      → set (back (length front) (sets buffer 0 front) part) end 10 ≡ laid (front ++ letterText n P ++ 10 ∷ []) buffer
+  letters-line n end P room e q =
+      let stored = sets-laid front buffer (omega arith) in
+      ap (λ (l : List ℕ). set l end 10) (back-laid front (letterText n P) buffer (sets buffer 0 front) part (length front) stored refl q)
+      ∙ set-laid (front ++ letterText n P) buffer end 10 (omega (arith, length-append front (letterText n P), length-letterText n P)) (omega arith)
+
+pub claim-text : (n : ℕ) (P : Pauli) → claimText n P ≡ 119 ∷ 61 ∷ letterText n P ++ 10 ∷ []
+unfolding claimText line bytes lineFeed
+claim-text n P = refl
+
+pub row-text : (family : Family) (n : ℕ) (P : Pauli)
+    → rowLineText family n P ≡ keyByte family ∷ 61 ∷ signByte (signOf P) ∷ letterText n P ++ 10 ∷ []
+unfolding rowLineText line bytes lineFeed rowText
+row-text Generator n P = refl
+row-text LogicalX n P = refl
+row-text LogicalZ n P = refl
+
+-- ---- lengths
+
+key-length : (family : Family) → length (bytes (rowKey family)) ≡ 2
+unfolding bytes
+key-length Generator = refl
+key-length LogicalX = refl
+key-length LogicalZ = refl
+
+pub length-claimText : (n : ℕ) (P : Pauli) → length (claimText n P) ≡ n + 3
+unfolding claimText bytes
+length-claimText n P = omega (arith, length-line "w=" (letterText n P), length-letterText n P)
+
+pub length-rowLineText : (family : Family) (n : ℕ) (P : Pauli) → length (rowLineText family n P) ≡ n + 4
+unfolding rowLineText
+length-rowLineText family n P = length-rowLine (rowKey family) n P (key-length family)
+
+pub length-familyText : (family : Family) (c : Code) (count : ℕ) → count ≤ length (rowsOf family c)
+    → length (familyText family c count) ≡ count * (c .n + 4)
+unfolding familyText
+length-familyText family c count h =
+    length-rowLines (rowKey family) (c .n) (take count (rowsOf family c)) (key-length family)
+    ∙ ap (λ (k : ℕ). k * (c .n + 4)) (length-take-le count (rowsOf family c) h)

@@ -1,0 +1,93 @@
+-- The buffer holds the letters that were passed; each turn lays the next.
+use mathlib.Core.Path.{_≡_, ap, _∙_}
+use Prim.Native.Nat.{_-_, _≤_}
+use native.Mathlib.Omega.{arith}
+use lib.ListN.{length, take, set}
+use Rattle.pauli.specs.Letters.{letterByte, letterOn, letterText}
+use Rattle.sheet.specs.Text.{laid}
+use Rattle.writer.proofs.Laid.{laid-nothing}
+use Rattle.writer.proofs.Lines.{letter-laid, length-letters-laid, letters-whole}
+use borrow.Author.Needs.{needs}
+use Rattle.writer.proofs.letters.Statement.{statement}
+use Rattle.writer.proofs.letters.Tie as tie
+
+abbrev Inv-loop : tie.InvT-loop
+Inv-loop out₀ n row place₀ out place = (place ≤ n) × (out ≡ laid (take place (letterText n row)) out₀)
+
+abbrev μ-loop : tie.MeasureT-loop
+μ-loop out₀ n row place₀ out place = n - place
+
+-- ---- at each turn
+
+abbrev start : tie.At-loop Inv-loop μ-loop → tie.Start Inv-loop μ-loop
+start c = c .before .before
+
+size : (c : tie.At-loop Inv-loop μ-loop) → length (c .loop .out) ≡ length (start c .args .out .now)
+size c =
+    let a = start c .args in
+    ap length (c .loop .inv .1) ∙ length-letters-laid (a .n) (c .loop .place) (a .row) (a .out .now) (c .loop .inv .0) (start c .pre .1)
+
+abbrev turn : tie.After-byte Inv-loop μ-loop → tie.At-loop Inv-loop μ-loop
+turn c = c .before .before .before
+
+byte-is : (c : tie.After-byte Inv-loop μ-loop) → c .byte .result ≡ letterByte (letterOn (turn c .loop .place) (start (turn c) .args .row))
+byte-is c = c .byte .ensures ∙ ap letterByte (c .before .letter-on .ensures)
+
+-- ---- the needs
+
+loop-holds : tie.Need-loop-holds Inv-loop μ-loop
+loop-holds c = (search needs, laid-nothing _)
+
+cast-letter-on : tie.Need-cast-letter-on Inv-loop μ-loop
+cast-letter-on c = omega arith
+
+letter-on-requires : tie.Need-letter-on-requires Inv-loop μ-loop
+letter-on-requires c κs = search needs
+
+byte-requires : tie.Need-byte-requires Inv-loop μ-loop
+byte-requires c κs = search needs
+
+slice-write-out : tie.Need-slice-write-out Inv-loop μ-loop
+slice-write-out c = omega (arith, size (turn c))
+
+add-place : tie.Need-add-place Inv-loop μ-loop
+add-place c = search needs
+
+loop-less : tie.Need-loop-less Inv-loop μ-loop
+loop-less c = search needs
+
+loop-again : tie.Need-loop-again Inv-loop μ-loop
+loop-again c =
+    let a = start (turn c) .args in
+    let l = turn c .loop in (
+      search needs,
+      ap (λ bytes. set bytes (l .place) (c .byte .result)) (l .inv .1)
+          ∙ ap (λ byte. set (laid (take (l .place) (letterText (a .n) (a .row))) (a .out .now)) (l .place) byte) (byte-is c)
+          ∙ letter-laid (a .n) (l .place) (a .row) (a .out .now) (search needs) (search needs),
+    )
+
+same-length : tie.Need-same-length Inv-loop μ-loop
+same-length c = size (c .before)
+
+returns : tie.Need-returns Inv-loop μ-loop
+returns c =
+    let a = start (c .before) .args in
+    let l = c .before .loop in
+    l .inv .1 ∙ ap (λ text. laid text (a .out .now)) (letters-whole (a .n) (l .place) (a .row) (search needs))
+
+pub letters-spec : {M : Type 1} → statement M
+letters-spec =
+    tie.close
+    (tie.spec
+    Inv-loop
+    μ-loop
+    loop-holds
+    cast-letter-on
+    letter-on-requires
+    byte-requires
+    slice-write-out
+    add-place
+    loop-less
+    loop-again
+    same-length
+    returns)

@@ -1,0 +1,2 @@
+-- What the contracts of the single calls cite.
+pub mod Lines
