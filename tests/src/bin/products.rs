@@ -4,6 +4,7 @@
 //!
 //! `products cases` writes the lines; `products answers` reads lines and writes an answer for each.
 
+use independent::random::Random;
 use std::io::{self, Read, Write};
 
 #[derive(Clone, Copy, PartialEq, Debug)]
@@ -164,22 +165,10 @@ fn all_rows(n: u32, signs: &[char]) -> Vec<String> {
     rows
 }
 
-/// Marsaglia's xorshift, so that the cases are the same each time.
-struct Random(u64);
-
-impl Random {
-    fn below(&mut self, n: u64) -> u64 {
-        self.0 ^= self.0 << 13;
-        self.0 ^= self.0 >> 7;
-        self.0 ^= self.0 << 17;
-        (self.0 >> 16) % n
-    }
-
-    fn row(&mut self, n: u64) -> String {
-        let sign = ['+', '-'][self.below(2) as usize];
-        let letters = (0..n).map(|_| LETTERS[self.below(4) as usize].0);
-        std::iter::once(sign).chain(letters).collect()
-    }
+fn random_row(random: &mut Random, n: u64) -> String {
+    let sign = random.pick(&['+', '-']);
+    let letters = (0..n).map(|_| random.pick(&LETTERS).0);
+    std::iter::once(sign).chain(letters).collect()
 }
 
 fn cases() -> Vec<String> {
@@ -207,7 +196,7 @@ fn cases() -> Vec<String> {
         for rows in 1..=5 {
             lines.push(
                 (0..rows)
-                    .map(|_| random.row(n))
+                    .map(|_| random_row(&mut random, n))
                     .collect::<Vec<String>>()
                     .join(" "),
             );

@@ -1,0 +1,227 @@
+//! The code record: numbers and Paulis with masks, as a caller hands it over. Its limits are those under which it has a sheet, so it is
+//! looked at qubit by qubit and turned into one.
+
+use crate::sheet::{Letter, Refusal, Row, Sheet};
+
+/// i^p D(a,b), with qubit j at bit j - 1 of both masks, and p read modulo 4.
+#[derive(Clone, Copy, PartialEq, Eq, Debug)]
+pub struct Pauli {
+    pub p: u32,
+    pub a: u32,
+    pub b: u32,
+}
+
+/// The rows of each family are as many as it has room for. Within its limits those that are not used are +I.
+#[derive(Clone, PartialEq, Eq, Debug)]
+pub struct Record {
+    pub n: usize,
+    pub r: usize,
+    pub d: usize,
+    pub g: [Pauli; 32],
+    pub x: [Pauli; 24],
+    pub z: [Pauli; 24],
+    pub w: Pauli,
+}
+
+const PLUS_I: Pauli = Pauli { p: 0, a: 0, b: 0 };
+
+impl Record {
+    /// What stands beside a refused reading.
+    pub const EMPTY: Record = Record {
+        n: 0,
+        r: 0,
+        d: 0,
+        g: [PLUS_I; 32],
+        x: [PLUS_I; 24],
+        z: [PLUS_I; 24],
+        w: PLUS_I,
+    };
+
+    pub fn of(sheet: &Sheet) -> Record {
+        let (minus, letters) = (false, sheet.claim.clone());
+        Record {
+            n: sheet.n,
+            r: sheet.generators.len(),
+            d: sheet.d,
+            g: paulis(&sheet.generators),
+            x: paulis(&sheet.xs),
+            z: paulis(&sheet.zs),
+            w: Pauli::of(&Row { minus, letters }),
+        }
+    }
+
+    /// The sheet of a record, or none where the record is outside its limits.
+    pub fn sheet(&self) -> Option<Sheet> {
+        let Record { n, r, d, .. } = *self;
+        let numbers = (2..=24).contains(&n) && (1..n).contains(&r) && (1..=7).contains(&d);
+        if !numbers {
+            return None;
+        }
+        let claim = self.w.row(n).filter(|row| !row.minus)?;
+        Some(Sheet {
+            n,
+            d,
+            generators: rows(&self.g, r, n)?,
+            xs: rows(&self.x, n - r, n)?,
+            zs: rows(&self.z, n - r, n)?,
+            claim: claim.letters,
+        })
+    }
+
+    /// Writes the sheet to the front of a buffer and gives its count of bytes; a refusal, 15 before 17, leaves the buffer as it is.
+    pub fn write(&self, out: &mut [u8]) -> Result<usize, Refusal> {
+        let refusal = |number| Refusal { number, line: 0 };
+        let text = self.sheet().ok_or(refusal(15))?.text();
+        let room = out.get_mut(..text.len()).ok_or(refusal(17))?;
+        room.copy_from_slice(&text);
+        Ok(text.len())
+    }
+}
+
+fn paulis<const ROOM: usize>(rows: &[Row]) -> [Pauli; ROOM] {
+    let mut paulis = [PLUS_I; ROOM];
+    for (pauli, row) in paulis.iter_mut().zip(rows) {
+        *pauli = Pauli::of(row);
+    }
+    paulis
+}
+
+/// The first rows of a family, or none where one of them is no signed row on n qubits or one behind them is not +I.
+fn rows(paulis: &[Pauli], used: usize, n: usize) -> Option<Vec<Row>> {
+    let (used, unused) = paulis.split_at(used);
+    if !unused.iter().all(Pauli::is_plus_i) {
+        return None;
+    }
+    used.iter().map(|pauli| pauli.row(n)).collect()
+}
+
+impl Pauli {
+    fn of(row: &Row) -> Pauli {
+        let mut pauli = PLUS_I;
+        for (qubit, &letter) in row.letters.iter().enumerate() {
+            let (a, b) = bits(letter);
+            pauli.a += a << qubit;
+            pauli.b += b << qubit;
+        }
+        pauli.p = phase(row.minus, &row.letters);
+        pauli
+    }
+
+    /// The signed row on n qubits that this is, or none where a bit stands above qubit n or the phase is that of no sign.
+    fn row(&self, n: usize) -> Option<Row> {
+        let at = |qubit: usize| (self.a >> qubit & 1, self.b >> qubit & 1);
+        if (n..32).any(|qubit| at(qubit) != (0, 0)) {
+            return None;
+        }
+        let letters: Vec<Letter> = (0..n).map(|qubit| letter(at(qubit))).collect();
+        let minus = [false, true]
+            .into_iter()
+            .find(|&minus| phase(minus, &letters) == self.p % 4)?;
+        Some(Row { minus, letters })
+    }
+
+    fn is_plus_i(&self) -> bool {
+        (self.p % 4, self.a, self.b) == (0, 0, 0)
+    }
+}
+
+/// The phase of a signed row: 1 for each Y, since Y is i times XZ, and 2 for a minus.
+fn phase(minus: bool, letters: &[Letter]) -> u32 {
+    let ys = letters.iter().filter(|&&l| l == Letter::Y).count() as u32;
+    (ys + 2 * u32::from(minus)) % 4
+}
+
+fn bits(letter: Letter) -> (u32, u32) {
+    match letter {
+        Letter::I => (0, 0),
+        Letter::X => (1, 0),
+        Letter::Z => (0, 1),
+        Letter::Y => (1, 1),
+    }
+}
+
+fn letter(wanted: (u32, u32)) -> Letter {
+    let found = Letter::ALL.into_iter().find(|&l| bits(l) == wanted);
+    found.expect("the four letters have the four pairs of bits")
+}
+
+#[cfg(test)]
+mod tests {
+    use super::*;
+    use crate::samples::{self, A};
+    use crate::sheet::read_alone;
+
+    fn record(text: &str) -> Record {
+        Record::of(&read_alone(text.as_bytes()).expect(text))
+    }
+
+    #[test]
+    fn a_record_keeps_its_sheet() {
+        for text in samples::all() {
+            let sheet = read_alone(text.as_bytes()).unwrap();
+            assert_eq!(Record::of(&sheet).sheet(), Some(sheet));
+        }
+    }
+
+    #[test]
+    fn a_row_is_masks_and_a_phase() {
+        let signs = A.replace("g=+XZZXI", "g=-XYZYI");
+        let first = record(&signs).g[0];
+        let (p, a, b) = (0, 0b01011, 0b01110);
+        assert_eq!(first, Pauli { p, a, b });
+        assert_eq!(record(A).w.p, 2);
+    }
+
+    #[test]
+    fn the_writer_fills_the_front_or_nothing() {
+        let mut out = vec![b'.'; A.len() + 3];
+        assert_eq!(record(A).write(&mut out), Ok(A.len()));
+        assert_eq!(out, (A.to_string() + "...").as_bytes());
+        let mut short = vec![b'.'; A.len() - 1];
+        let refusal = |number| Err(Refusal { number, line: 0 });
+        assert_eq!(record(A).write(&mut short), refusal(17));
+        assert_eq!(Record::EMPTY.write(&mut short), refusal(15));
+        assert!(short.iter().all(|&byte| byte == b'.'));
+    }
+
+    #[test]
+    fn each_limit_is_a_limit() {
+        let outside = |change: fn(&mut Record)| {
+            let mut changed = record(A);
+            change(&mut changed);
+            assert_eq!(changed.sheet(), None);
+        };
+        outside(|c| c.n = 1);
+        outside(|c| c.n = 25);
+        outside(|c| c.n = usize::MAX);
+        outside(|c| c.r = 0);
+        outside(|c| c.r = c.n);
+        outside(|c| c.r = c.n + 1);
+        outside(|c| c.r = usize::MAX);
+        outside(|c| c.d = 0);
+        outside(|c| c.d = 8);
+        outside(|c| c.g[0].a |= 1 << 5);
+        outside(|c| c.g[0].b |= 1 << 5);
+        outside(|c| c.x[0].a |= 1 << 31);
+        outside(|c| c.z[0].b |= 1 << 31);
+        outside(|c| c.w.b |= 1 << 5);
+        outside(|c| c.g[3].p += 1);
+        outside(|c| c.x[0].p += 1);
+        outside(|c| c.z[0].p += 3);
+        outside(|c| c.w.p += 1);
+        outside(|c| c.w.p += 2);
+        outside(|c| c.g[4].a = 1);
+        outside(|c| c.g[31].b = 1);
+        outside(|c| c.x[1].b = 1);
+        outside(|c| c.z[23].p = 2);
+    }
+
+    #[test]
+    fn phases_are_read_modulo_4() {
+        let mut changed = record(A);
+        changed.g[0].p += 4;
+        changed.g[31].p = 8;
+        changed.w.p += 4;
+        assert_eq!(changed.sheet(), record(A).sheet());
+    }
+}
