@@ -54,7 +54,7 @@ unfoldable pub gotOr : {A : Type 0} → Refusal → Option A → List ℕ → Pa
 gotOr refusal none rest = stop refusal
 gotOr refusal (some a) rest = got a rest
 
--- The bytes begin with the key, and behind m more there is a line feed.
+-- 01: "Lines `key=value`, each closed by a line feed (byte 10)". The bytes begin with the key, and behind m more there is a line feed.
 unfoldable pub isLine : List ℕ → ℕ → List ℕ → Bool
 isLine key m s = begins key s && eqb (getD (drop (length key) s) m 0) lineFeed
 
@@ -171,7 +171,7 @@ linesReading s = answered s (readLines s)
 unfoldable pub formReading : List ℕ → LinesReading
 formReading s = answered s (readForm s)
 
--- The part of the bytes that is behind the lines, as a report reads it on; none where they were refused.
+-- 01: "Reports read a sheet and then any number of `s=` lines." The part of the bytes that is behind the lines; none where they were refused.
 unfoldable pub behind : List ℕ → Lines → List ℕ
 behind s (Lines.Read used) = drop used s
 behind s (Lines.Refused refusal) = []

@@ -35,7 +35,8 @@ logicalXs c = take (logicalCount c) (c .x)
 unfoldable pub logicalZs : Code → List Pauli
 logicalZs c = take (logicalCount c) (c .z)
 
--- The rows of a family: its array in the record, how many places that has, the key of its lines, and the byte that the key begins with.
+-- 01: "generator, X logical or Z logical". The rows of a family: its array in the record, how many places that has, the key of its
+-- lines, and the byte that the key begins with.
 abbrev pub rowsOf : Family → Code → List Pauli
 rowsOf Generator c = c .g
 rowsOf LogicalX c = c .x
