@@ -1,15 +1,16 @@
 -- Lines of rows, one after the other: what a loop has read is prepended to what the rest reads.
 use mathlib.Core.List.{List, [], _∷_, _++_, append-assoc, append-nil}
 use mathlib.Core.Path.{_≡_, refl, ap, sym, _∙_}
-use Prim.Native.Nat.{ℕ, suc, _+_, _-_, _<_, _≤_}
+use Prim.Native.Nat.{ℕ, _+_, _-_, _<_, _≤_}
 use native.Mathlib.Omega.{arith}
 use lib.ListN.{length, drop, set, replicate, length-append, length-drop}
-use lib.Seq.{set-append-seam, drop-drop}
+use lib.Seq.{drop-drop}
 use Rattle.pauli.specs.declared.Pauli.{Pauli}
 use Rattle.pauli.specs.Product.{identity}
 use Rattle.sheet.specs.declared.Refusal.{Refusal}
 use Rattle.sheet.specs.Reader.{Parsed, Reader, got, stop, done, continue}
 use Rattle.sheet.specs.Record.{filled}
+use Rattle.sheet.proofs.Filled.{filled-more}
 
 -- The rows read so far stand before those that the rest gives.
 unfoldable pub prepended : List Pauli → Parsed (List Pauli) → Parsed (List Pauli)
@@ -22,16 +23,6 @@ pub record Progress (room : ℕ) (R : ℕ → Reader (List Pauli)) (s : List ℕ
   pub counted : length read ≡ count
   pub within : used ≤ length s
   pub so-far : R 0 s ≡ prepended read (R count (drop used s))
-
--- One more row in an array.
-filled-more : (room : ℕ) (read : List Pauli) (row : Pauli) → length read < room
-    → set (filled room read) (length read) row ≡ filled room (read ++ row ∷ [])
-unfolding filled
-filled-more room read row h =
-    let left : room - length read ≡ suc (room - length (read ++ row ∷ [])) = omega (arith, length-append read (row ∷ [])) in
-    ap (λ m. set (read ++ replicate m identity) (length read) row) left
-    ∙ set-append-seam read identity (replicate (room - length (read ++ row ∷ [])) identity) row
-    ∙ sym (append-assoc read (row ∷ []) (replicate (room - length (read ++ row ∷ [])) identity))
 
 prepended-nothing : (p : Parsed (List Pauli)) → p ≡ prepended [] p
 unfolding prepended continue done

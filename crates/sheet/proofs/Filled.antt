@@ -1,14 +1,14 @@
 -- Rows at the front of an array, with +I in the places behind them: what stands where, that such an array is lawful where
 -- its rows are, and that every lawful array is such a one, but for phases modulo 4.
 use mathlib.Core.Bool.{true}
-use mathlib.Core.List.{List, [], _∷_, map, map-append}
-use mathlib.Core.Path.{_≡_, refl, sym}
-use Prim.Native.Nat.{ℕ, zero, suc, _-_, _%_, _≤_}
+use mathlib.Core.List.{List, [], _∷_, _++_, map, map-append, append-assoc}
+use mathlib.Core.Path.{_≡_, refl, ap, sym, _∙_}
+use Prim.Native.Nat.{ℕ, zero, suc, _-_, _%_, _≤_, _<_}
 use native.Mathlib.Omega.{arith}
 use borrow.Author.Tests.{eqb-true}
-use lib.ListN.{length, take, drop, replicate, length-append, length-map, length-take, length-drop, length-replicate}
+use lib.ListN.{length, take, drop, set, replicate, length-append, length-map, length-take, length-drop, length-replicate}
 use lib.ListN.{take-append-drop}
-use lib.Seq.{take-at, drop-at}
+use lib.Seq.{take-at, drop-at, set-append-seam}
 use Rattle.pauli.specs.declared.Pauli.{Pauli}
 use Rattle.pauli.specs.Lists.{allOf}
 use Rattle.pauli.specs.Product.{identity, modulo4, samePauli, sameMasks, hasPhase}
@@ -61,6 +61,16 @@ module _ (m : ℕ) (rows : List Pauli) where
     pub filled-are-rows : (n : ℕ) → allOf (isRow n) rows ≡ true → areRows n k (filled m rows) ≡ true
     unfolding areRows
     filled-are-rows n e = rw (take-filled, e, drop-filled, all-identity)
+
+-- One more row in an array.
+pub filled-more : (room : ℕ) (rows : List Pauli) (row : Pauli) → length rows < room
+    → set (filled room rows) (length rows) row ≡ filled room (rows ++ row ∷ [])
+unfolding filled
+filled-more room rows row h =
+    let left : room - length rows ≡ suc (room - length (rows ++ row ∷ [])) = omega (arith, length-append rows (row ∷ [])) in
+    ap (λ m. set (rows ++ replicate m identity) (length rows) row) left
+    ∙ set-append-seam rows identity (replicate (room - length (rows ++ row ∷ [])) identity) row
+    ∙ sym (append-assoc rows (row ∷ []) (replicate (room - length (rows ++ row ∷ [])) identity))
 
 -- The used rows of an array, with +I behind them, are the array.
 pub filled-returns : (m r : ℕ) (rows : List Pauli) → length rows ≡ m → allOf (samePauli identity) (drop r rows) ≡ true
