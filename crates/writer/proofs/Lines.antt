@@ -1,9 +1,11 @@
--- The texts of single lines, as the code writes them, from the front.
+-- The texts of single lines, as the code writes them, from the front; and what the call for one row answers.
 use mathlib.Core.List.{List, [], _∷_, _++_}
 use mathlib.Core.Path.{_≡_, refl, ap, sym, _∙_}
-use Prim.Native.Nat.{ℕ, _+_, _*_, _/_, _%_, _≤_, _<_}
+use Prim.Native.Nat.{ℕ, _+_, _/_, _%_, _≤_, _<_}
+use Prim.Native.String.{String}
 use native.Mathlib.Numerals.{add-one}
 use native.Mathlib.Omega.{arith}
+use borrow.Author.Tests.{lt-ltb, le-ltb}
 use lib.ListN.{length, take, set, getD, length-append, length-set, List·getD-map}
 use lib.Seq.{take-suc, take-all, length-take-le, sets, length-sets}
 use Rattle.pauli.specs.declared.Letter.the-variants.{I}
@@ -11,14 +13,16 @@ use Rattle.pauli.specs.declared.Pauli.{Pauli}
 use Rattle.pauli.specs.Letters.{letterByte, letterText, letterOn, lettersOf, rowText, signByte, signOf}
 use Rattle.pauli.specs.Lists.{bytes}
 use Rattle.pauli.proofs.Letters.{letters-at}
-use Rattle.sheet.specs.declared.Code.{Code}
 use Rattle.sheet.specs.declared.Family.{Family}
 use Rattle.sheet.specs.declared.Family.the-variants.{Generator, LogicalX, LogicalZ}
-use Rattle.sheet.specs.Record.{keyByte, rowKey, rowsOf}
-use Rattle.sheet.specs.Text.{laid, line, lineFeed}
-use Rattle.sheet.proofs.Lengths.{length-letterText, length-line, length-rowLine, length-rowLines, decimal-one, decimal-two}
-use Rattle.writer.specs.Lines.{numberText, rowLineText, claimText, familyText}
+use Rattle.sheet.specs.declared.Refusal.{Refusal}
+use Rattle.sheet.specs.declared.Written.{Written}
+use Rattle.sheet.specs.Record.{keyByte, rowKey}
+use Rattle.sheet.specs.Text.{laid, line, lineFeed, untouched}
+use Rattle.sheet.proofs.Lengths.{length-letterText, length-line, length-rowText, decimal-one, decimal-two}
+use Rattle.writer.specs.Lines.{numberText, rowLineText, writeRow, claimText}
 use Rattle.writer.proofs.Laid.{length-laid, sets-laid, set-laid, lent, back, length-back, back-laid}
+use Rattle.writer.proofs.Written.{refuseIf-true, refuseIf-false, written-fault, written-short, written-whole}
 
 -- ---- letters
 
@@ -89,32 +93,46 @@ pub claim-text : (n : ℕ) (P : Pauli) → claimText n P ≡ 119 ∷ 61 ∷ lett
 unfolding claimText line bytes lineFeed
 claim-text n P = refl
 
-pub row-text : (family : Family) (n : ℕ) (P : Pauli)
-    → rowLineText family n P ≡ keyByte family ∷ 61 ∷ signByte (signOf P) ∷ letterText n P ++ 10 ∷ []
-unfolding rowLineText line bytes lineFeed rowText
-row-text Generator n P = refl
-row-text LogicalX n P = refl
-row-text LogicalZ n P = refl
+pub row-text : (key n : ℕ) (P : Pauli) → rowLineText key n P ≡ key ∷ 61 ∷ signByte (signOf P) ∷ letterText n P ++ 10 ∷ []
+unfolding rowLineText lineFeed rowText
+row-text key n P = refl
+
+-- ---- keys: the text of a key is its byte and `=`
+
+pub keyed-line : (text : String) (key n : ℕ) (P : Pauli) → bytes text ≡ key ∷ 61 ∷ [] → rowLineText key n P ≡ line text (rowText n P)
+unfolding rowLineText line
+keyed-line text key n P e = ap (λ (front : List ℕ). front ++ rowText n P ++ lineFeed ∷ []) (sym e)
+
+pub family-key : (family : Family) → bytes (rowKey family) ≡ keyByte family ∷ 61 ∷ []
+unfolding bytes
+family-key Generator = refl
+family-key LogicalX = refl
+family-key LogicalZ = refl
 
 -- ---- lengths
-
-key-length : (family : Family) → length (bytes (rowKey family)) ≡ 2
-unfolding bytes
-key-length Generator = refl
-key-length LogicalX = refl
-key-length LogicalZ = refl
 
 pub length-claimText : (n : ℕ) (P : Pauli) → length (claimText n P) ≡ n + 3
 unfolding claimText bytes
 length-claimText n P = omega (arith, length-line "w=" (letterText n P), length-letterText n P)
 
-pub length-rowLineText : (family : Family) (n : ℕ) (P : Pauli) → length (rowLineText family n P) ≡ n + 4
+pub length-rowLineText : (key n : ℕ) (P : Pauli) → length (rowLineText key n P) ≡ n + 4
 unfolding rowLineText
-length-rowLineText family n P = length-rowLine (rowKey family) n P (key-length family)
+length-rowLineText key n P = simp length-append (omega (arith, length-rowText n P))
 
-pub length-familyText : (family : Family) (c : Code) (count : ℕ) → count ≤ length (rowsOf family c)
-    → length (familyText family c count) ≡ count * (c .n + 4)
-unfolding familyText
-length-familyText family c count h =
-    length-rowLines (rowKey family) (c .n) (take count (rowsOf family c)) (key-length family)
-    ∙ ap (λ (k : ℕ). k * (c .n + 4)) (length-take-le count (rowsOf family c) h)
+-- ---- the call for one row
+
+module _ (key n : ℕ) (P : Pauli) (buffer : List ℕ) where
+  pub row-outside-limits : 24 < n → writeRow key n P buffer ≡ untouched (Written.Refused Refusal.RecordLimits) buffer
+  unfolding writeRow
+  row-outside-limits h = written-fault _ _ (refuseIf-true _ (lt-ltb 24 n h))
+
+  module _ (within : n ≤ 24) where
+    pub row-too-short : length buffer < length (rowLineText key n P)
+        → writeRow key n P buffer ≡ untouched (Written.Refused Refusal.ShortBuffer) buffer
+    unfolding writeRow
+    row-too-short = written-short _ _ (refuseIf-false _ (le-ltb 24 n within))
+
+    pub row-has-room : length (rowLineText key n P) ≤ length buffer
+        → writeRow key n P buffer ≡ record { answer = Written.Count (length (rowLineText key n P)); buffer = laid (rowLineText key n P) buffer }
+    unfolding writeRow
+    row-has-room = written-whole _ _ (refuseIf-false _ (le-ltb 24 n within))

@@ -1,5 +1,5 @@
 -- The sheet: how long it is, the lines up to each key, and what the call answers.
-use mathlib.Core.Bool.{Bool, true, false, cond}
+use mathlib.Core.Bool.{Bool, true, false, not, cond}
 use mathlib.Core.List.{List, _++_}
 use mathlib.Core.Path.{_≡_, refl, ap, _∙_}
 use Prim.Native.Nat.{ℕ, _+_, _-_, _*_, _≤_, _<_}
@@ -13,12 +13,12 @@ use Rattle.sheet.specs.declared.Family.the-variants.{Generator, LogicalX, Logic
 use Rattle.sheet.specs.declared.Refusal.{Refusal}
 use Rattle.sheet.specs.declared.Written.{Written}
 use Rattle.sheet.specs.Record.{logicalCount, generators, logicalXs, logicalZs, withinLimits, limitsFault}
-use Rattle.sheet.specs.Refusals.{refuseIf, _then_}
 use Rattle.sheet.specs.Statements.{Sized}
-use Rattle.sheet.specs.Text.{line, lineFeed, laid, untouched, guarded, roomFault, written}
+use Rattle.sheet.specs.Text.{line, lineFeed, laid, untouched}
 use Rattle.sheet.specs.Writer.{sheetText, writeSheet}
 use Rattle.sheet.proofs.Lengths.{sheetLength, length-sheetText, sheetText-le}
 use Rattle.writer.specs.Lines.{numberText, familyText, claimText}
+use Rattle.writer.proofs.Written.{refuseIf-true, refuseIf-false, written-fault, written-short, written-whole}
 
 -- ---- its length
 
@@ -90,15 +90,15 @@ room c m h =
 
 module _ (c : Code) (buffer : List ℕ) where
   pub outside-limits : withinLimits c ≡ false → writeSheet c buffer ≡ untouched (Written.Refused Refusal.RecordLimits) buffer
-  unfolding writeSheet written limitsFault refuseIf guarded _then_
-  outside-limits h = rw h
+  unfolding writeSheet limitsFault
+  outside-limits h = written-fault _ _ (refuseIf-true _ (ap not h))
 
   module _ (within : withinLimits c ≡ true) where
     pub too-short : length buffer < length (sheetText c) → writeSheet c buffer ≡ untouched (Written.Refused Refusal.ShortBuffer) buffer
-    unfolding writeSheet written limitsFault roomFault refuseIf guarded _then_
-    too-short h = rw (within, lt-ltb (length buffer) (length (sheetText c)) h)
+    unfolding writeSheet limitsFault
+    too-short = written-short _ _ (refuseIf-false _ (ap not within))
 
     pub has-room : length (sheetText c) ≤ length buffer
         → writeSheet c buffer ≡ record { answer = Written.Count (length (sheetText c)); buffer = laid (sheetText c) buffer }
-    unfolding writeSheet written limitsFault roomFault refuseIf guarded _then_
-    has-room h = rw (within, le-ltb (length buffer) (length (sheetText c)) h)
+    unfolding writeSheet limitsFault
+    has-room = written-whole _ _ (refuseIf-false _ (ap not within))

@@ -13,7 +13,7 @@ ghost use Rattle.pauli.specs.Letters.{letterText};
 ghost use Rattle.sheet.specs.Record.{rowsOf, withinLimits};
 ghost use Rattle.sheet.specs.Text.{laid};
 ghost use Rattle.sheet.specs.Writer.{sheetText, writeSheet};
-ghost use Rattle.writer.specs.Lines.{numberText, rowLineText, familyText, claimText};
+ghost use Rattle.writer.specs.Lines.{numberText, rowLineText, writeRow, familyText, claimText};
 
 // The letters of a row, one for each of n qubits.
 fn letters(out: &mut [u8], n: usize, row: Pauli)
@@ -48,14 +48,14 @@ fn number_line(out: &mut [u8], key: u8, m: usize) -> usize
     5
 }
 
-// The line of a row: its family's key, its sign, its letters.
-fn row_line(out: &mut [u8], family: Family, n: usize, row: Pauli) -> usize
+// The line of a row: its key, its sign, its letters.
+fn row_line(out: &mut [u8], key: u8, n: usize, row: Pauli) -> usize
     requires { ⌜ n ≤ 24 ⌝ }
-    requires { ⌜ length (rowLineText family n row) ≤ length (now out) ⌝ }
-    ensures { λ r. ⌜ r ≡ length (rowLineText family n row) ⌝ }
-    ensures { λ _. ⌜ now (out .exit) ≡ laid (rowLineText family n row) (now (out .entry)) ⌝ }
+    requires { ⌜ length (rowLineText key n row) ≤ length (now out) ⌝ }
+    ensures { λ r. ⌜ r ≡ length (rowLineText key n row) ⌝ }
+    ensures { λ _. ⌜ now (out .exit) ≡ laid (rowLineText key n row) (now (out .entry)) ⌝ }
 {
-    out[0] = family.key();
+    out[0] = key;
     out[1] = b'=';
     out[2] = row.sign().byte();
     letters(&mut out[3..], n, row);
@@ -89,7 +89,7 @@ fn row_lines(out: &mut [u8], code: Code, family: Family, count: usize) -> usize
     let mut end: usize = 0;
     let mut place: usize = 0;
     while place < count {
-        end += row_line(&mut out[end..], family, n, code.row(family, place));
+        end += row_line(&mut out[end..], family.key(), n, code.row(family, place));
         place += 1;
     }
     end
@@ -141,4 +141,19 @@ pub fn write_sheet(code: Code, out: &mut [u8]) -> Written
         return Written::Refused(Refusal::ShortBuffer);
     }
     Written::Count(sheet_lines(out, code))
+}
+
+// The line of one row by itself, into an output buffer: 15 where there are more than 24 qubits, then 17 where the buffer is shorter than the
+// line, then the line's bytes and their count. Whatever the row is, its sign is - where it has not that of +, and mask bits above qubit n are not shown.
+pub fn write_row(key: u8, n: usize, row: Pauli, out: &mut [u8]) -> Written
+    ensures { λ r. ⌜ r ≡ (writeRow key n row (now (out .entry))) .answer ⌝ }
+    ensures { λ _. ⌜ now (out .exit) ≡ (writeRow key n row (now (out .entry))) .buffer ⌝ }
+{
+    if n > 24 {
+        return Written::Refused(Refusal::RecordLimits);
+    }
+    if out.len() < n + 4 {
+        return Written::Refused(Refusal::ShortBuffer);
+    }
+    Written::Count(row_line(out, key, n, row))
 }

@@ -6,7 +6,6 @@ use native.Mathlib.Omega.{arith}
 use lib.ListN.{length, length-set}
 use lib.Seq.{sets, length-sets}
 use Rattle.pauli.specs.Letters.{letterText, signByte}
-use Rattle.sheet.specs.Record.{keyByte}
 use Rattle.sheet.specs.Text.{laid}
 use Rattle.writer.specs.Lines.{rowLineText}
 use Rattle.writer.proofs.Laid.{back, length-lent}
@@ -16,30 +15,29 @@ use Rattle.writer.proofs.row_line.Statement.{statement}
 use Rattle.writer.proofs.row_line.Tie as tie
 
 room : (c : tie.Start) → c .args .n + 4 ≤ length (c .args .out .now)
-room c = omega (arith, length-rowLineText (c .args .family) (c .args .n) (c .args .row))
+room c = omega (arith, length-rowLineText (c .args .key) (c .args .n) (c .args .row))
 
 -- ---- what stands before the letters
 
 abbrev start : tie.After-byte → tie.Start
-start c = c .before .before .before .before
+start c = c .before .before .before
 
 abbrev buffer : tie.After-byte → List ℕ
 buffer c = start c .args .out .now
 
 abbrev front : tie.After-byte → List ℕ
-front c = c .before .before .key .result ∷ 61 ∷ c .byte .result ∷ []
+front c = start c .args .key ∷ 61 ∷ c .byte .result ∷ []
 
 abbrev letterBytes : tie.After-byte → List ℕ
 letterBytes c = letterText (start c .args .n) (start c .args .row)
 
 abbrev text : tie.After-byte → List ℕ
-text c = rowLineText (start c .args .family) (start c .args .n) (start c .args .row)
+text c = rowLineText (start c .args .key) (start c .args .n) (start c .args .row)
 
 text-is : (c : tie.After-byte) → front c ++ letterBytes c ++ 10 ∷ [] ≡ text c
 text-is c =
-    ap (λ key. key ∷ 61 ∷ c .byte .result ∷ letterBytes c ++ 10 ∷ []) (c .before .before .key .ensures)
-    ∙ ap (λ sign. keyByte (start c .args .family) ∷ 61 ∷ sign ∷ letterBytes c ++ 10 ∷ []) (c .byte .ensures ∙ ap signByte (c .before .sign .ensures))
-    ∙ sym (row-text (start c .args .family) (start c .args .n) (start c .args .row))
+    ap (λ sign. start c .args .key ∷ 61 ∷ sign ∷ letterBytes c ++ 10 ∷ []) (c .byte .ensures ∙ ap signByte (c .before .sign .ensures))
+    ∙ sym (row-text (start c .args .key) (start c .args .n) (start c .args .row))
 
 -- ---- behind the letters
 
@@ -54,14 +52,11 @@ length-lettered c = length-behind (front (fronted c)) (buffer (fronted c)) (part
 
 -- ---- the needs
 
-key-requires : tie.Need-key-requires
-key-requires c κs = search needs
-
 slice-write-out : tie.Need-slice-write-out
-slice-write-out c = omega (arith, room (c .before .before))
+slice-write-out c = omega (arith, room (c .before))
 
 slice-write-out-2 : tie.Need-slice-write-out-2
-slice-write-out-2 c = simp length-set (omega (arith, room (c .before .before)))
+slice-write-out-2 c = simp length-set (omega (arith, room (c .before)))
 
 sign-requires : tie.Need-sign-requires
 sign-requires c κs = search needs
@@ -107,7 +102,7 @@ returns c =
     let letters = c .before .before in
     let at = fronted letters in
     let a = start at .args in (
-      sym (length-rowLineText (a .family) (a .n) (a .row)),
+      sym (length-rowLineText (a .key) (a .n) (a .row)),
       letters-line (front at) (buffer at) (part letters) (a .n) (a .n + 3) (a .row) (omega (arith, room (start at))) (omega arith)
           (letters .letters .ensures)
           ∙ ap (λ text. laid text (buffer at)) (text-is at),
@@ -117,7 +112,6 @@ pub row-line-spec : {M : Type 1} → statement M
 row-line-spec =
     tie.close
     (tie.spec
-    key-requires
     slice-write-out
     slice-write-out-2
     sign-requires

@@ -4,6 +4,7 @@ use mathlib.Core.Path.{_≡_, ap, _∙_}
 use Prim.Native.Nat.{ℕ, _+_, _-_, _≤_}
 use native.Mathlib.Omega.{arith}
 use lib.ListN.{length}
+use Rattle.sheet.specs.Record.{keyByte}
 use Rattle.sheet.specs.Text.{laid}
 use Rattle.writer.specs.Lines.{rowLineText, familyText}
 use Rattle.writer.proofs.Laid.{back, length-lent, Holds, holds-nothing, holds-as, holds-more}
@@ -43,21 +44,25 @@ room c =
 -- ---- behind the line
 
 abbrev turn : tie.After-row-line Inv-loop μ-loop → tie.In-loop Inv-loop μ-loop
-turn c = c .before .before .before
+turn c = c .before .before .before .before
+
+abbrev key : tie.After-row-line Inv-loop μ-loop → ℕ
+key c = c .before .before .key .result
 
 length-line : (c : tie.After-row-line Inv-loop μ-loop) → c .row-line .result ≡ start (turn c) .args .code .n + 4
 length-line c =
     let a = start (turn c) .args in
-    c .row-line .ensures .0 ∙ length-rowLineText (a .family) (a .code .n) (c .before .row .result)
+    c .row-line .ensures .0 ∙ length-rowLineText (key c) (a .code .n) (c .before .row .result)
 
 text-is : (c : tie.After-row-line Inv-loop μ-loop)
     → let a = start (turn c) .args in
-    familyText (a .family) (a .code) (place (turn c)) ++ rowLineText (a .family) (a .code .n) (c .before .row .result)
+    familyText (a .family) (a .code) (place (turn c)) ++ rowLineText (key c) (a .code .n) (c .before .row .result)
     ≡ familyText (a .family) (a .code) (place (turn c) + 1)
 text-is c =
     let a = start (turn c) .args in
     let i = place (turn c) in
-    ap (λ row. familyText (a .family) (a .code) i ++ rowLineText (a .family) (a .code .n) row) (c .before .row .ensures)
+    ap (λ byte. familyText (a .family) (a .code) i ++ rowLineText byte (a .code .n) (c .before .row .result)) (c .before .before .key .ensures)
+    ∙ ap (λ row. familyText (a .family) (a .code) i ++ rowLineText (keyByte (a .family)) (a .code .n) row) (c .before .row .ensures)
     ∙ lines-more (a .family) (a .code) i (omega (arith, start (turn c) .pre .1))
 
 held : (c : tie.After-row-line Inv-loop μ-loop)
@@ -84,14 +89,17 @@ part-row-line-start c = omega (arith, room c, c .before .loop .inv .1 .size)
 part-row-line-end : tie.Need-part-row-line-end Inv-loop μ-loop
 part-row-line-end c = search needs
 
+key-requires : tie.Need-key-requires Inv-loop μ-loop
+key-requires c κs = search needs
+
 row-requires : tie.Need-row-requires Inv-loop μ-loop
 row-requires c κs = search needs
 
 row-line-requires : tie.Need-row-line-requires Inv-loop μ-loop
 row-line-requires c κs =
-    let turn = c .before .before in
+    let turn = c .before .before .before in
     let a = start turn .args in
-    let line = length-rowLineText (a .family) (a .code .n) (c .row .result) in
+    let line = length-rowLineText (c .before .key .result) (a .code .n) (c .row .result) in
     (search needs, omega (arith, room turn, turn .before .loop .inv .1 .size, line, length-lent (end turn) (out turn)))
 
 add-end : tie.Need-add-end Inv-loop μ-loop
@@ -130,6 +138,7 @@ row-lines-spec =
     sub-row-line
     part-row-line-start
     part-row-line-end
+    key-requires
     row-requires
     row-line-requires
     add-end
