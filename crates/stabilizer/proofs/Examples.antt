@@ -1,11 +1,13 @@
--- The group's checks and canonical generators of small row lists, computed.
+-- The group's checks, members with their signs, and canonical generators of small row lists, and the call on records, computed.
 use mathlib.Core.Bool.{true, false}
 use mathlib.Core.List.{List, [], _∷_, map}
 use mathlib.Core.Option.{none, some, Option·getD}
 use mathlib.Core.Path.{_≡_, refl}
+use Prim.Native.Nat.{ℕ}
 use Prim.Native.String.{String}
 use Rattle.pauli.specs.declared.Pauli.{Pauli}
 use Rattle.pauli.specs.declared.Letter.the-variants.{I, Z}
+use Rattle.pauli.specs.declared.Sign.the-variants.{Plus, Minus}
 use Rattle.pauli.specs.Letters.{ofLetters}
 use Rattle.pauli.specs.Lists.{bytes}
 use Rattle.sheet.specs.declared.Code.{Code}
@@ -16,9 +18,9 @@ use Rattle.sheet.specs.Edges.{eightQubits, sheetA}
 use Rattle.sheet.specs.Reader.{readRow, linesReading}
 use Rattle.sheet.specs.Record.{codeOf, generators}
 use Rattle.sheet.specs.Text.{untouched}
-use Rattle.stabilizer.specs.Canonical.{canonicalGenerators, writeCanonical}
-use Rattle.stabilizer.specs.Checks.{generatorFault, minusIdentity}
-use Rattle.stabilizer.specs.Group.{inGroupUpToPhase}
+use Rattle.stabilizer.specs.Canonical.{reducesToIdentity, canonicalGenerators, writeCanonical}
+use Rattle.stabilizer.specs.Checks.{minusIdentity, dependence, generatorFault, groupFault}
+use Rattle.stabilizer.specs.Group.{inGroupUpToPhase, memberSign}
 use Rattle.stabilizer.specs.Opened.{opened}
 
 -- A row as it is written; what is no row becomes -I.
@@ -54,6 +56,11 @@ minus-identity : generatorFault (rows ("-II" ∷ "+ZZ" ∷ [])) ≡ some (Refusa
 unfolding rows opened
 minus-identity = refl
 
+-- 7 comes before 8: behind -I a row that is -I is both
+minus-first : dependence (rows ("-II" ∷ [])) 4 (row "-II") ≡ some (Refusal.MinusIdentity 4 Family.Generator)
+unfolding rows row opened
+minus-first = refl
+
 -- 6 over all rows comes before 7 and 8
 clash-first : generatorFault (rows ("+ZZI" ∷ "-ZZI" ∷ "+XII" ∷ [])) ≡ some (Refusal.GeneratorsAnticommute 5 Family.Generator)
 unfolding rows opened
@@ -78,7 +85,22 @@ not-member : inGroupUpToPhase (rowsOf sheetA) (row "+XXXXX") ≡ false
 unfolding rowsOf row opened
 not-member = refl
 
+-- XX times ZZ is -YY, and the sign asked for does not count
+member-signs : map (memberSign (rows ("+XX" ∷ "+ZZ" ∷ []))) (rows ("-ZZ" ∷ "+YY" ∷ "+XI" ∷ [])) ≡ some Plus ∷ some Minus ∷ none ∷ []
+unfolding rows opened
+member-signs = refl
+
+-- where both signs are a member's, as of rows that 7 refuses, + is taken
+both-signs : memberSign (rows ("-II" ∷ [])) (row "+II") ≡ some Plus
+unfolding rows row opened
+both-signs = refl
+
 -- ---- canonical generators
+
+-- of YY these leave -I, which is I, phase aside
+reduces-to-identity : map (reducesToIdentity 2 (rows ("+XX" ∷ "+ZZ" ∷ []))) (rows ("+YY" ∷ "-YY" ∷ "+XI" ∷ [])) ≡ true ∷ true ∷ false ∷ []
+unfolding rows opened
+reduces-to-identity = refl
 
 -- those of A, from its rows as they stand and in another order
 canonical-a : canonicalGenerators 5 (rowsOf sheetA) ≡ rows ("+YZIZY" ∷ "+IXZZX" ∷ "+ZZXIX" ∷ "+ZIZYY" ∷ [])
@@ -99,6 +121,11 @@ canonical-z : canonicalGenerators 3 (rows ("+ZZI" ∷ "-IZZ" ∷ [])) ≡ rows (
 unfolding rows opened
 canonical-z = refl
 
+-- a phase is read modulo 4
+canonical-phase : canonicalGenerators 2 (record { p = 4; a = 0; b = 3 } ∷ []) ≡ rows ("+ZZ" ∷ [])
+unfolding rows opened
+canonical-phase = refl
+
 canonical-eight : canonicalGenerators 8 (rowsOf eightQubits) ≡ rows ("+XZIYIYXZ" ∷ "+IXZYIXZY" ∷ "-IZXYZIYX" ∷ "-IIZZYYXX" ∷ "+ZZZZZZZZ" ∷ [])
 unfolding rowsOf rows opened
 canonical-eight = refl
@@ -114,15 +141,25 @@ written-six : writeCanonical (record2 ("-ZZ" ∷ [])) (bytes "abcdefgh") ≡ rec
 unfolding record2 opened
 written-six = refl
 
--- three qubits, two generators
-record3 : List String → Code
+-- three qubits, two generators, and a distance
+record3 : ℕ → List String → Code
 unfolding rows
-record3 generators = codeOf 3 1 (rows generators) (rows ("+IXI" ∷ [])) (rows ("+IZI" ∷ [])) (ofLetters (I ∷ Z ∷ I ∷ []))
+record3 d generators = codeOf 3 d (rows generators) (rows ("+IXI" ∷ [])) (rows ("+IZI" ∷ [])) (ofLetters (I ∷ Z ∷ I ∷ []))
 
 written-rows :
-    writeCanonical (record3 ("+XIX" ∷ "+IIX" ∷ [])) (bytes "abcdefghijklmn") ≡ record { answer = Written.Count 14; buffer = bytes "h=+XII\nh=+IIX\n" }
+    writeCanonical (record3 1 ("+XIX" ∷ "+IIX" ∷ [])) (bytes "abcdefghijklmn")
+    ≡ record { answer = Written.Count 14; buffer = bytes "h=+XII\nh=+IIX\n" }
 unfolding record3 opened
 written-rows = refl
+
+-- 15 comes before 6
+clash-of-record : groupFault (record3 1 ("+XII" ∷ "+ZII" ∷ [])) ≡ some (Refusal.GeneratorsAnticommute 4 Family.Generator)
+unfolding record3 opened
+clash-of-record = refl
+
+clash-outside : groupFault (record3 8 ("+XII" ∷ "+ZII" ∷ [])) ≡ some Refusal.RecordLimits
+unfolding record3 opened
+clash-outside = refl
 
 -- 17, 7 and 15 write nothing; 7 comes before 17, and 15 before 7
 short : writeCanonical (record2 ("-ZZ" ∷ [])) (bytes "abcde") ≡ untouched (Written.Refused Refusal.ShortBuffer) (bytes "abcde")
@@ -130,12 +167,11 @@ unfolding record2 opened
 short = refl
 
 faulty :
-    writeCanonical (record3 ("+ZIZ" ∷ "-ZIZ" ∷ [])) (bytes "abc") ≡ untouched (Written.Refused (Refusal.MinusIdentity 4 Family.Generator)) (bytes "abc")
+    writeCanonical (record3 1 ("+ZIZ" ∷ "-ZIZ" ∷ [])) (bytes "abc")
+    ≡ untouched (Written.Refused (Refusal.MinusIdentity 4 Family.Generator)) (bytes "abc")
 unfolding record3 opened
 faulty = refl
 
-outside :
-    writeCanonical (codeOf 2 8 (rows ("-II" ∷ [])) (rows ("+XX" ∷ [])) (rows ("+ZI" ∷ [])) (ofLetters (Z ∷ I ∷ []))) []
-    ≡ untouched (Written.Refused Refusal.RecordLimits) []
-unfolding rows opened
+outside : writeCanonical (record3 8 ("+ZIZ" ∷ "-ZIZ" ∷ [])) [] ≡ untouched (Written.Refused Refusal.RecordLimits) []
+unfolding record3 opened
 outside = refl

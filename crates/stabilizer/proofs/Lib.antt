@@ -1,2 +1,12 @@
+pub mod All
+pub mod Columns
+pub mod Echelon
 pub mod Examples
+pub mod Faults
+pub mod Generated
+pub mod Independent
+pub mod Members
+pub mod Reduction
+pub mod Tests
+pub mod Theorems
 pub mod Untouched

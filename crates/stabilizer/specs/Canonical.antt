@@ -1,7 +1,7 @@
 -- Canonical generators, which 01 calls tidy rows.
 -- 01: "Tidy rows generate the same signed group. Read as bits a1..an, b1..bn they are in reduced echelon form: each row's first
 -- one stands alone in its column, and those columns rise. Signs follow the product rule."
-use mathlib.Core.Bool.{true, false, cond}
+use mathlib.Core.Bool.{Bool, true, false, cond}
 use mathlib.Core.List.{List, [], _∷_, _++_, map, foldl}
 use mathlib.Core.Logic.{_↔_, _≢_}
 use mathlib.Core.Path.{_≡_}
@@ -11,15 +11,14 @@ use lib.ListN.{length, getD}
 use Rattle.pauli.specs.declared.Pauli.{Pauli}
 use Rattle.pauli.specs.Lists.{allOf}
 use Rattle.pauli.specs.Masks.{bits}
-use Rattle.pauli.specs.Product.{identity, product, sameMasks}
+use Rattle.pauli.specs.Product.{identity, product, modulo4, sameMasks}
 use Rattle.sheet.specs.declared.Code.{Code}
 use Rattle.sheet.specs.declared.Written.{Written}
-use Rattle.sheet.specs.Record.{generators, isRow, limitsFault}
-use Rattle.sheet.specs.Refusals.{_then_}
+use Rattle.sheet.specs.Record.{generators, isRow}
 use Rattle.sheet.specs.Text.{After, written}
 use Rattle.sheet.specs.Writer.{rowLines}
 use Rattle.stabilizer.specs.Group.{InGroup}
-use Rattle.stabilizer.specs.Checks.{generatorFault}
+use Rattle.stabilizer.specs.Checks.{groupFault}
 
 -- A row read as bits a1..an, b1..bn; a column counts from 0.
 unfoldable pub columns : ℕ → Pauli → List ℕ
@@ -45,9 +44,11 @@ pub record ReducedEchelon (n : ℕ) (rows : List Pauli) : Type 0 where
       → column n (getD rows j identity) (pivot n (getD rows i identity)) ≡ 0
   pub rise : (i j : ℕ) → i < j → j < length rows → pivot n (getD rows i identity) < pivot n (getD rows j identity)
 
+-- 01: "A phase is read modulo 4." Their phases are 0 to 3, so that rows with one group can have one list of them.
 pub record IsCanonical (n : ℕ) (rows canonical : List Pauli) : Type 0 where
   pub sameGroup : (P : Pauli) → InGroup rows P ↔ InGroup canonical P
   pub signed : allOf (isRow n) canonical ≡ true
+  pub phases : map modulo4 canonical ≡ canonical
   pub echelon : ReducedEchelon n canonical
 
 -- ---- the same as a function: rows are added one by one to a reduced list
@@ -59,15 +60,19 @@ cleared n h P = cond (eqb (column n P (pivot n h)) 1) (product P h) P
 unfoldable pub reduced : ℕ → List Pauli → Pauli → Pauli
 reduced n hs P = foldl (λ Q h. cleared n h Q) P hs
 
+-- Nothing but a phase is left of the row.
+unfoldable pub reducesToIdentity : ℕ → List Pauli → Pauli → Bool
+reducesToIdentity n hs P = sameMasks (reduced n hs P) identity
+
 unfoldable pub insertByPivot : ℕ → Pauli → List Pauli → List Pauli
 insertByPivot n Q [] = Q ∷ []
 insertByPivot n Q (h ∷ hs) =
     elim (ltb (pivot n Q) (pivot n h)) [ true ↦ Q ∷ h ∷ hs | false ↦ h ∷ insertByPivot n Q hs ]
 
--- One row more; a row that reduces to I, phase aside, adds nothing.
+-- One row more: what is left of it, its phase 0 to 3. A row that reduces to I, phase aside, adds nothing.
 unfoldable pub added : ℕ → List Pauli → Pauli → List Pauli
 added n hs P =
-    let Q = reduced n hs P in cond (sameMasks Q identity) hs (insertByPivot n Q (map (cleared n Q) hs))
+    let Q = modulo4 (reduced n hs P) in cond (sameMasks Q identity) hs (insertByPivot n Q (map (cleared n Q) hs))
 
 unfoldable pub canonicalGenerators : ℕ → List Pauli → List Pauli
 canonicalGenerators n rows = foldl (added n) [] rows
@@ -79,4 +84,4 @@ canonicalText c = rowLines "h=" (c .n) (canonicalGenerators (c .n) (generators c
 
 -- 01: "A call on a record gives them as their `h=` lines; checks 6 to 8 run between 15 and 17, lines as in its written sheet."
 unfoldable pub writeCanonical : Code → List ℕ → After Written
-writeCanonical c buffer = written (limitsFault c then generatorFault (generators c)) (canonicalText c) buffer
+writeCanonical c buffer = written (groupFault c) (canonicalText c) buffer

@@ -5,9 +5,10 @@ use Prim.Native.Nat.{ℕ, _+_}
 use Rattle.pauli.specs.declared.Pauli.{Pauli}
 use Rattle.pauli.specs.Lists.{anyOf}
 use Rattle.pauli.specs.Product.{identity, product, anticommutes, samePauli}
+use Rattle.sheet.specs.declared.Code.{Code}
 use Rattle.sheet.specs.declared.Family.{Family}
 use Rattle.sheet.specs.declared.Refusal.{Refusal}
-use Rattle.sheet.specs.Record.{generatorsAt}
+use Rattle.sheet.specs.Record.{generators, generatorsAt, limitsFault}
 use Rattle.sheet.specs.Refusals.{_then_, refuseIf}
 use Rattle.stabilizer.specs.Group.{group}
 
@@ -35,3 +36,7 @@ dependence before at P =
 -- 01: "6 to 14 run in table order, each over all its rows, 7 and 8 together as one check; .."
 unfoldable pub generatorFault : List Pauli → Option Refusal
 generatorFault rows = firstFault clash [] generatorsAt rows then firstFault dependence [] generatorsAt rows
+
+-- A call on the group of a record: 15, then 6 to 8. 01: "checks 6 to 8 run between 15 and 17, lines as in its written sheet."
+unfoldable pub groupFault : Code → Option Refusal
+groupFault c = limitsFault c then generatorFault (generators c)

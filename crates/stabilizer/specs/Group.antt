@@ -1,9 +1,13 @@
 -- The group of a list of rows.
 -- 01: "The group of a sheet is all products of a selection of its g rows (the empty selection gives I)."
-use mathlib.Core.Bool.{Bool, true, false}
+use mathlib.Core.Bool.{Bool, true, false, cond}
 use mathlib.Core.List.{List, [], _∷_, _++_, map}
+use mathlib.Core.Option.{Option, none, some}
 use mathlib.Core.Path.{_≡_}
 use Rattle.pauli.specs.declared.Pauli.{Pauli}
+use Rattle.pauli.specs.declared.Sign.{Sign}
+use Rattle.pauli.specs.declared.Sign.the-variants.{Plus, Minus}
+use Rattle.pauli.specs.Letters.{rowOf}
 use Rattle.pauli.specs.Lists.{anyOf}
 use Rattle.pauli.specs.Product.{identity, product, sameMasks, samePauli}
 
@@ -30,3 +34,11 @@ group (g ∷ rows) = let rest = group rows in rest ++ map (product g) rest
 -- The test for a member, phase aside.
 unfoldable pub inGroupUpToPhase : List Pauli → Pauli → Bool
 inGroupUpToPhase rows P = anyOf (sameMasks P) (group rows)
+
+-- The signed row with P's masks is a member.
+unfoldable pub rowInGroup : List Pauli → Sign → Pauli → Bool
+rowInGroup rows sign P = anyOf (samePauli (rowOf sign (P .a) (P .b))) (group rows)
+
+-- The sign of the member that has P's masks, where there is one. For rows that pass 6 to 8 there is one such sign at most.
+unfoldable pub memberSign : List Pauli → Pauli → Option Sign
+memberSign rows P = cond (rowInGroup rows Plus P) (some Plus) (cond (rowInGroup rows Minus P) (some Minus) none)

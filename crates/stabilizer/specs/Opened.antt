@@ -1,10 +1,10 @@
 -- Every definition of this layer and of those below it that computes, to be opened at once where an example is computed: a proof that says
 -- `unfolding opened` unfolds all that the line below names.
 use Rattle.sheet.specs.Opened.{opened as opened-sheet}
-use Rattle.stabilizer.specs.Group.{productOf, group, inGroupUpToPhase}
-use Rattle.stabilizer.specs.Checks.{firstFault, minusIdentity, clash, dependence, generatorFault}
-use Rattle.stabilizer.specs.Canonical.{columns, column, firstOne, pivot, cleared, reduced, insertByPivot, added, canonicalGenerators, canonicalText, writeCanonical}
+use Rattle.stabilizer.specs.Group.{productOf, group, inGroupUpToPhase, rowInGroup, memberSign}
+use Rattle.stabilizer.specs.Checks.{firstFault, minusIdentity, clash, dependence, generatorFault, groupFault}
+use Rattle.stabilizer.specs.Canonical.{columns, column, firstOne, pivot, cleared, reduced, reducesToIdentity, insertByPivot, added, canonicalGenerators, canonicalText, writeCanonical}
 
 unfoldable pub opened : Unit {0}
-unfolding productOf group inGroupUpToPhase firstFault minusIdentity clash dependence generatorFault columns column firstOne pivot cleared reduced insertByPivot added canonicalGenerators canonicalText writeCanonical opened-sheet
+unfolding productOf group inGroupUpToPhase rowInGroup memberSign firstFault minusIdentity clash dependence generatorFault groupFault columns column firstOne pivot cleared reduced reducesToIdentity insertByPivot added canonicalGenerators canonicalText writeCanonical opened-sheet
 opened = tt

@@ -1,22 +1,24 @@
 -- What is stated of the group and of canonical generators.
-use mathlib.Core.Bool.{true}
-use mathlib.Core.List.{List, [], _∷_}
+use mathlib.Core.Bool.{true, false}
+use mathlib.Core.List.{List, [], _∷_, _++_}
 use mathlib.Core.Logic.{_↔_}
 use mathlib.Core.Option.{none, some}
 use mathlib.Core.Path.{_≡_}
-use Prim.Native.Nat.{ℕ}
-use lib.ListN.{length}
+use Prim.Native.Nat.{ℕ, _<_}
+use lib.ListN.{length, getD}
 use Rattle.pauli.specs.declared.Pauli.{Pauli}
 use Rattle.pauli.specs.Lists.{anyOf, allOf}
-use Rattle.pauli.specs.Product.{samePauli}
+use Rattle.pauli.specs.declared.Sign.{Sign}
+use Rattle.pauli.specs.Letters.{rowOf, isSignedRow}
+use Rattle.pauli.specs.Product.{identity, product, commutes, samePauli}
 use Rattle.sheet.specs.declared.Code.{Code}
 use Rattle.sheet.specs.declared.Refusal.{Refusal}
-use Rattle.sheet.specs.Record.{isRow}
+use Rattle.sheet.specs.Record.{isRow, onQubits}
 use Rattle.sheet.specs.Refusals.{writtenRefusal}
 use Rattle.sheet.specs.Statements.{RefusalLeaves, Among}
-use Rattle.stabilizer.specs.Group.{InGroup, group, InGroupUpToPhase, inGroupUpToPhase}
-use Rattle.stabilizer.specs.Checks.{generatorFault}
-use Rattle.stabilizer.specs.Canonical.{IsCanonical, canonicalGenerators, writeCanonical}
+use Rattle.stabilizer.specs.Group.{InGroup, group, InGroupUpToPhase, inGroupUpToPhase, memberSign}
+use Rattle.stabilizer.specs.Checks.{generatorFault, groupFault}
+use Rattle.stabilizer.specs.Canonical.{ReducedEchelon, IsCanonical, reduced, reducesToIdentity, canonicalGenerators, writeCanonical}
 
 -- The list of the group has its members, signs included.
 abbrev pub GroupIsListed : Type 0
@@ -25,6 +27,38 @@ GroupIsListed = (rows : List Pauli) (P : Pauli) → (anyOf (samePauli P) (group 
 -- The test for a member is right: some selection's product has these masks.
 abbrev pub MembershipIsDecided : Type 0
 MembershipIsDecided = (rows : List Pauli) (P : Pauli) → (inGroupUpToPhase rows P ≡ true) ↔ InGroupUpToPhase rows P
+
+-- Any two of the rows commute.
+abbrev pub Commuting : List Pauli → Type 0
+Commuting rows = (i j : ℕ) → i < length rows → j < length rows → commutes (getD rows i identity) (getD rows j identity) ≡ true
+
+-- The group of rows has each row, and that of commuting signed rows the product of any two of its members. (Of i times a row the square is -I.)
+pub record CommutingRowsAreAGroup : Type 0 where
+  pub rows : (rows : List Pauli) (i : ℕ) → i < length rows → InGroup rows (getD rows i identity)
+  pub products : (rows : List Pauli) → allOf isSignedRow rows ≡ true → Commuting rows → (P Q : Pauli) → InGroup rows P → InGroup rows Q
+      → InGroup rows (product P Q)
+
+-- Reduction keeps the signed group: a row may be replaced by what other rows leave of it.
+abbrev pub ReductionKeepsTheGroup : Type 0
+ReductionKeepsTheGroup =
+    (n : ℕ) (rows : List Pauli) (P : Pauli) → allOf (isRow n) (rows ++ P ∷ []) ≡ true → Commuting (rows ++ P ∷ []) → (R : Pauli)
+    → InGroup (rows ++ P ∷ []) R ↔ InGroup (rows ++ reduced n rows P ∷ []) R
+
+-- A Pauli is in the group, phase aside, exactly when it reduces to I: by rows in reduced echelon form, and by the canonical generators of any rows.
+pub record ReductionDecidesMembership : Type 0 where
+  pub echelon : (n : ℕ) (rows : List Pauli) → ReducedEchelon n rows → (P : Pauli) → reducesToIdentity n rows P ≡ inGroupUpToPhase rows P
+  pub canonical : (n : ℕ) (rows : List Pauli) → allOf (onQubits n) rows ≡ true → (P : Pauli)
+      → reducesToIdentity n (canonicalGenerators n rows) P ≡ inGroupUpToPhase rows P
+
+-- Of rows that pass 6 to 8 one signed row at most has given masks, and the sign found is its sign; there is one exactly where some selection's product
+-- has these masks.
+pub record MemberSignDecides (rows : List Pauli) (P : Pauli) : Type 0 where
+  pub found : (s : Sign) → (memberSign rows P ≡ some s) ↔ InGroup rows (rowOf s (P .a) (P .b))
+  pub missing : (memberSign rows P ≡ none) ↔ (inGroupUpToPhase rows P ≡ false)
+
+abbrev pub MemberSignIsDecided : Type 0
+MemberSignIsDecided =
+    (n : ℕ) (rows : List Pauli) → allOf (isRow n) rows ≡ true → generatorFault rows ≡ none → (P : Pauli) → MemberSignDecides rows P
 
 -- Of rows that pass 6 to 8 the canonical generators are what 01 says of tidy rows, and there are as many.
 abbrev pub CanonicalGeneratorsAreCanonical : Type 0
@@ -36,8 +70,8 @@ CanonicalGeneratorsAreCanonical =
 abbrev pub CanonicalRefusalsLeave : Type 0
 CanonicalRefusalsLeave = (c : Code) (buffer : List ℕ) → RefusalLeaves writtenRefusal buffer (writeCanonical c buffer)
 
--- The numbers with which it refuses.
-abbrev pub CanonicalRefusalNumbers : Type 0
-CanonicalRefusalNumbers =
-    (c : Code) (buffer : List ℕ) (refusal : Refusal) → writtenRefusal (writeCanonical c buffer .answer) ≡ some refusal
-    → Among (6 ∷ 7 ∷ 8 ∷ 15 ∷ 17 ∷ []) refusal
+-- The numbers with which it refuses, and those of its checks alone.
+pub record CanonicalRefusalNumbers : Type 0 where
+  pub call : (c : Code) (buffer : List ℕ) (refusal : Refusal) → writtenRefusal (writeCanonical c buffer .answer) ≡ some refusal
+      → Among (6 ∷ 7 ∷ 8 ∷ 15 ∷ 17 ∷ []) refusal
+  pub checks : (c : Code) (refusal : Refusal) → groupFault c ≡ some refusal → Among (6 ∷ 7 ∷ 8 ∷ 15 ∷ []) refusal
