@@ -1,0 +1,10 @@
+pub mod Clearing
+pub mod Grown
+pub mod Left
+pub mod Order
+pub mod Room
+pub mod Rows
+pub mod Signs
+pub mod Steps
+pub mod Taken
+pub mod Walk

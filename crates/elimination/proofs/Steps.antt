@@ -1,0 +1,158 @@
+-- 7 and 8, row by row: the canonical generators of the rows so far, which are independent, tell what the next row is.
+use mathlib.Core.Bool.{Bool, true, false, cond, false≢true}
+use mathlib.Core.List.{List, []}
+use mathlib.Core.Option.{Option, none, some}
+use mathlib.Core.Path.{_≡_, refl, ap, ap₂, sym, subst, _∙_}
+use Prim.Native.Nat.{ℕ, _+_, _<_, _≤_}
+use native.Mathlib.Omega.{arith}
+use lib.ListN.{length, take, getD, length-take}
+use lib.Seq.{getD-take}
+use Rattle.pauli.specs.declared.Pauli.{Pauli}
+use Rattle.pauli.specs.Product.{identity, sameMasks, samePauli}
+use Rattle.sheet.specs.declared.Family.{Family}
+use Rattle.sheet.specs.declared.Refusal.{Refusal}
+use Rattle.sheet.specs.Record.{isRow, generatorsAt}
+use Rattle.sheet.specs.Refusals.{_then_}
+use Rattle.stabilizer.specs.Canonical.{reduced, reducesToIdentity, added, canonicalGenerators}
+use Rattle.stabilizer.specs.Checks.{minusIdentity, firstFault, dependence}
+use Rattle.stabilizer.proofs.All.{All, all-at, all-places}
+use Rattle.stabilizer.proofs.Faults.{reducedFault, dependence-reduced}
+use Rattle.stabilizer.proofs.Generated.{whole, Commute, Commuting}
+use Rattle.stabilizer.proofs.Independent.{Rows, Independent, independent-none, independent-more}
+use Rattle.stabilizer.proofs.Reduction.{canonical-more}
+use Rattle.elimination.specs.declared.Added.{Added}
+use Rattle.elimination.specs.declared.Kind.{Kind}
+use Rattle.elimination.specs.declared.Kind.the-variants.{Independent as IsIndependent, PlusIdentity, MinusIdentity}
+use Rattle.elimination.specs.declared.ReducedRows.{ReducedRows}
+use Rattle.elimination.specs.Answers.{rowsIn, reducedOf}
+use Rattle.elimination.specs.Step.{IsReducedOf, kindOf, addition}
+use Rattle.elimination.proofs.Rows.{rows-of, is-reduced-of}
+use Rattle.elimination.proofs.Walk.{Left, taken-more, fault-at, fault-end}
+
+-- ---- the fault of a kind
+
+abbrev pub kindFault : ℕ → Kind → Option Refusal
+kindFault at IsIndependent = none
+kindFault at PlusIdentity = some (Refusal.DependentGenerator at Family.Generator)
+kindFault at MinusIdentity = some (Refusal.MinusIdentity at Family.Generator)
+
+kind-fault : (at : ℕ) (Q : Pauli) → reducedFault at Q ≡ kindFault at (kindOf Q)
+unfolding reducedFault kindOf
+kind-fault at Q = by (sameMasks Q identity) (samePauli minusIdentity Q)
+  where
+    by : (none? minus? : Bool)
+        → cond none? (some (cond minus? (Refusal.MinusIdentity at Family.Generator) (Refusal.DependentGenerator at Family.Generator))) none
+        ≡ kindFault at (cond none? (cond minus? MinusIdentity PlusIdentity) IsIndependent)
+    by true true = refl
+    by true false = refl
+    by false minus? = refl
+
+-- Of the three kinds, the one that leaves more than a phase.
+isNew : Kind → Bool
+isNew IsIndependent = true
+isNew PlusIdentity = false
+isNew MinusIdentity = false
+
+independent-left : (Q : Pauli) → kindOf Q ≡ IsIndependent → sameMasks Q identity ≡ false
+unfolding kindOf isNew
+independent-left Q = by (sameMasks Q identity) (samePauli minusIdentity Q)
+  where
+    by : (none? minus? : Bool) → cond none? (cond minus? MinusIdentity PlusIdentity) IsIndependent ≡ IsIndependent → none? ≡ false
+    by true true e = absurd (false≢true (ap isNew e))
+    by true false e = absurd (false≢true (ap isNew e))
+    by false minus? e = refl
+
+-- ---- the first rows of an array
+
+all-taken : (S : Pauli → Type 0) (rows : List Pauli) (count place : ℕ) → place ≤ count → count ≤ length rows → All S (take count rows) → All S (take place rows)
+all-taken S rows count place few room all = all-places S identity (take place rows) at
+  where
+    at : (i : ℕ) → i < length (take place rows) → S (getD (take place rows) i identity)
+    at i h =
+        let short : i < place = omega (arith, length-take place rows) in
+        subst S (getD-take count rows i identity (omega arith) ∙ sym (getD-take place rows i identity short))
+        (all-at S identity (take count rows) all i (omega (arith, length-take count rows)))
+
+module _ (n : ℕ) (rows : List Pauli) (count : ℕ) where
+  -- The first `place` of them, and what 7 and 8 find behind them.
+  pub record Stepped (place : ℕ) (hs : ReducedRows) : Type 0 where
+    pub held : hs ≡ reducedOf n (canonicalGenerators n (take place rows))
+    pub independent : Independent n (take place rows)
+    pub left : Left dependence rows count place 3 ≡ firstFault dependence [] generatorsAt (take count rows)
+
+  pub stepped-none : (hs : ReducedRows) → hs ≡ reducedOf n [] → Stepped 0 hs
+  unfolding canonicalGenerators generatorsAt
+  stepped-none hs e = record { held = e; independent = independent-none n; left = refl }
+
+  module _ {place : ℕ} {hs : ReducedRows} (s : Stepped place hs) where
+    pub stepped-is : IsReducedOf hs
+    stepped-is = subst IsReducedOf (sym (s .held)) (is-reduced-of n (canonicalGenerators n (take place rows)))
+
+    pub stepped-count : place ≤ length rows → hs .count ≡ place
+    unfolding reducedOf
+    stepped-count few = omega (arith, ap (λ r. r .count) (s .held), s .independent .count, length-take place rows)
+
+    pub stepped-end : count ≤ place → none ≡ firstFault dependence [] generatorsAt (take count rows)
+    stepped-end end = sym (fault-end dependence rows count place 3 end) ∙ s .left
+
+    -- One row more, of rows of n qubits that commute.
+    module _ (room : count ≤ length rows) (areRows : Rows n (take count rows)) (commuting : Commuting whole (take count rows))
+        (few : place < count) (P : Pauli) (here : P ≡ getD rows place identity) {step : Added} (stepped : step ≡ addition hs P) where
+      inside : place < length rows
+      inside = omega arith
+
+      -- What holds of all the rows holds of this one.
+      this : (S : Pauli → Type 0) → All S (take count rows) → S (getD rows place identity)
+      this S all =
+          subst S (getD-take count rows place identity few) (all-at S identity (take count rows) all place (omega (arith, length-take count rows)))
+
+      Q : Pauli
+      Q = reduced n (canonicalGenerators n (take place rows)) (getD rows place identity)
+
+      kind-is : step .kind ≡ kindOf Q
+      unfolding addition reducedOf Q
+      kind-is =
+          ap (λ r. r .kind) stepped
+          ∙ ap (λ r. kindOf (reduced (r .n) (rowsIn r) P)) (s .held) ∙ ap₂ (λ hs P. kindOf (reduced n hs P)) (rows-of n (canonicalGenerators n (take place rows))) here
+
+      reduced-is : step .reduced ≡ reducedOf n (canonicalGenerators n (take (place + 1) rows))
+      unfolding addition reducedOf
+      reduced-is =
+          ap (λ r. r .reduced) stepped ∙ ap (λ r. reducedOf (r .n) (added (r .n) (rowsIn r) P)) (s .held)
+          ∙ ap₂ (λ hs P. reducedOf n (added n hs P)) (rows-of n (canonicalGenerators n (take place rows))) here
+          ∙ ap (reducedOf n) (sym (canonical-more n (take place rows) (getD rows place identity)))
+          ∙ ap (λ all. reducedOf n (canonicalGenerators n all)) (taken-more rows place inside)
+
+      row : isRow n (getD rows place identity) ≡ true
+      row = this (λ R. isRow n R ≡ true) areRows
+
+      commutes-before : All (Commute whole (getD rows place identity)) (take place rows)
+      commutes-before =
+          all-taken (Commute whole (getD rows place identity)) rows count place (omega arith) room
+          (this (λ R. All (Commute whole R) (take count rows)) commuting)
+
+      -- What is found from here on.
+      found : {kind : Kind} → step .kind ≡ kind
+          → (kindFault (3 + place) kind then Left dependence rows count (place + 1) 3) ≡ firstFault dependence [] generatorsAt (take count rows)
+      unfolding Q
+      found e =
+          ap (λ k. kindFault (3 + place) k then Left dependence rows count (place + 1) 3) (sym e ∙ kind-is)
+          ∙ ap (λ f. f then Left dependence rows count (place + 1) 3)
+          (sym (dependence-reduced n (take place rows) (3 + place) (getD rows place identity) (s .independent) row ∙ kind-fault (3 + place) Q))
+          ∙ sym (fault-at dependence rows count place 3 few room) ∙ s .left
+
+      pub stepped-fault : {kind : Kind} {refusal : Refusal} → step .kind ≡ kind → kindFault (3 + place) kind ≡ some refusal
+          → some refusal ≡ firstFault dependence [] generatorsAt (take count rows)
+      unfolding _then_
+      stepped-fault e f = ap (λ fault. fault then Left dependence rows count (place + 1) 3) (sym f) ∙ found e
+
+      pub stepped-more : step .kind ≡ IsIndependent → Stepped (place + 1) (step .reduced)
+      unfolding _then_ Q reducesToIdentity
+      stepped-more e =
+          record {
+            held = reduced-is;
+            independent =
+                subst (Independent n) (taken-more rows place inside)
+                (independent-more n (take place rows) (getD rows place identity) (s .independent) row commutes-before (independent-left Q (sym kind-is ∙ e)));
+            left = found e;
+          }

@@ -1,0 +1,44 @@
+-- The first rows of a list, one by one from the front.
+use mathlib.Core.Bool.{Bool, true, false}
+use mathlib.Core.List.{List, [], _∷_}
+use mathlib.Core.Logic.{_⊎_, inl, ⊎-elim}
+use mathlib.Core.Path.{_≡_, ap, ap₂, sym, _∙_}
+use Prim.Native.Nat.{ℕ, _+_, _<_, _≤_}
+use native.Mathlib.Numerals.{add-one}
+use native.Mathlib.Omega.{arith}
+use lib.ListN.{length, take, drop, getD, length-take, drop-of-length-le}
+use lib.Seq.{drop-cons, getD-take}
+use Rattle.pauli.specs.declared.Pauli.{Pauli}
+use Rattle.pauli.specs.Lists.{anyOf}
+use Rattle.pauli.specs.Product.{identity}
+
+module _ (rows : List Pauli) (count place : ℕ) where
+  pub taken-at : place < count → place < length rows → drop place (take count rows) ≡ getD rows place identity ∷ drop (place + 1) (take count rows)
+  taken-at few inside =
+      drop-cons (take count rows) place identity (omega (arith, length-take count rows))
+      ∙ ap₂ _∷_ (getD-take count rows place identity few) (ap (λ (i : ℕ). drop i (take count rows)) (sym (add-one place)))
+
+  pub taken-end : (count ≤ place) ⊎ (length rows ≤ place) → drop place (take count rows) ≡ []
+  taken-end end =
+      let short = length-take count rows in
+      let past : length (take count rows) ≤ place = ⊎-elim (λ e. omega (arith, e, short)) (λ e. omega (arith, e, short)) end in
+      drop-of-length-le (take count rows) past
+
+-- A test of each of them.
+module _ (test : Pauli → Bool) (rows : List Pauli) (count place : ℕ) where
+  any-by : {t : Bool} → place < count → place < length rows → test (getD rows place identity) ≡ t
+      → anyOf test (drop place (take count rows)) ≡ elim t [ true ↦ true | false ↦ anyOf test (drop (place + 1) (take count rows)) ]
+  unfolding anyOf
+  any-by few inside e =
+      ap (anyOf test) (taken-at rows count place few inside) ∙ ap (λ t. elim t [ true ↦ true | false ↦ anyOf test (drop (place + 1) (take count rows)) ]) e
+
+  pub any-here : place < count → place < length rows → test (getD rows place identity) ≡ true → anyOf test (drop place (take count rows)) ≡ true
+  any-here few inside e = any-by few inside e
+
+  pub any-later : place < count → place < length rows → test (getD rows place identity) ≡ false
+      → anyOf test (drop place (take count rows)) ≡ anyOf test (drop (place + 1) (take count rows))
+  any-later few inside e = any-by few inside e
+
+  pub any-none : count ≤ place → anyOf test (drop place (take count rows)) ≡ false
+  unfolding anyOf
+  any-none end = ap (anyOf test) (taken-end rows count place (inl end))

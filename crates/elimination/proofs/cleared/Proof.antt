@@ -1,0 +1,30 @@
+-- The column of h's pivot decides.
+use mathlib.Core.Path.{_∙_}
+use borrow.Author.Needs.{needs}
+use Rattle.elimination.proofs.Clearing.{one-cleared, nothing-cleared}
+use Rattle.elimination.proofs.cleared.Statement.{statement}
+use Rattle.elimination.proofs.cleared.Tie as tie
+
+pivot-requires : tie.Need-pivot-requires
+pivot-requires c κs = search needs
+
+column-requires : tie.Need-column-requires
+column-requires c κs = search needs
+
+product-requires : tie.Need-product-requires
+product-requires c κs = search needs
+
+returns : tie.Need-returns
+returns c =
+    let at = c .before .before in
+    let a = at .before .before .args in
+    c .product .ensures ∙ one-cleared (a .n) (a .h) (a .p) (at .before .pivot .ensures) (at .column .ensures) (c .before .if1 .taken)
+
+returns-2 : tie.Need-returns-2
+returns-2 c =
+    let at = c .before in
+    let a = at .before .before .args in
+    nothing-cleared (a .n) (a .h) (a .p) (at .before .pivot .ensures) (at .column .ensures) (c .if1 .left)
+
+pub cleared-spec : {M : Type 1} → statement M
+cleared-spec = tie.close (tie.spec pivot-requires column-requires product-requires returns returns-2)
