@@ -1,6 +1,7 @@
 //! The code record: numbers and Paulis with masks, as a caller hands it over. Its limits are those under which it has a sheet, so it is
 //! looked at qubit by qubit and turned into one.
 
+use crate::group;
 use crate::sheet::{Letter, Refusal, Row, Sheet};
 
 /// i^p D(a,b), with qubit j at bit j - 1 of both masks, and p read modulo 4.
@@ -68,14 +69,34 @@ impl Record {
         })
     }
 
+    /// Check 15.
+    fn within_limits(&self) -> Result<Sheet, Refusal> {
+        self.sheet().ok_or(Refusal::new(15, 0))
+    }
+
     /// Writes the sheet to the front of a buffer and gives its count of bytes; a refusal, 15 before 17, leaves the buffer as it is.
     pub fn write(&self, out: &mut [u8]) -> Result<usize, Refusal> {
-        let refusal = |number| Refusal { number, line: 0 };
-        let text = self.sheet().ok_or(refusal(15))?.text();
-        let room = out.get_mut(..text.len()).ok_or(refusal(17))?;
-        room.copy_from_slice(&text);
-        Ok(text.len())
+        put(&self.within_limits()?.text(), out)
     }
+
+    /// Writes the `h=` lines likewise; here 6 to 8 come between 15 and 17.
+    pub fn write_canonical(&self, out: &mut [u8]) -> Result<usize, Refusal> {
+        put(&group::canonical_text(&self.within_limits()?)?, out)
+    }
+
+    /// Checks 15 and 6 to 8; gives the generators.
+    pub fn checked_generators(&self) -> Result<Vec<Row>, Refusal> {
+        let generators = self.within_limits()?.generators;
+        group::check(&generators)?;
+        Ok(generators)
+    }
+}
+
+/// Check 17, and the text at the front.
+fn put(text: &[u8], out: &mut [u8]) -> Result<usize, Refusal> {
+    let room = out.get_mut(..text.len());
+    room.ok_or(Refusal::new(17, 0))?.copy_from_slice(text);
+    Ok(text.len())
 }
 
 fn paulis<const ROOM: usize>(rows: &[Row]) -> [Pauli; ROOM] {
@@ -96,7 +117,7 @@ fn rows(paulis: &[Pauli], used: usize, n: usize) -> Option<Vec<Row>> {
 }
 
 impl Pauli {
-    fn of(row: &Row) -> Pauli {
+    pub(crate) fn of(row: &Row) -> Pauli {
         let mut pauli = PLUS_I;
         for (qubit, &letter) in row.letters.iter().enumerate() {
             let (a, b) = bits(letter);
@@ -178,7 +199,7 @@ mod tests {
         assert_eq!(record(A).write(&mut out), Ok(A.len()));
         assert_eq!(out, (A.to_string() + "...").as_bytes());
         let mut short = vec![b'.'; A.len() - 1];
-        let refusal = |number| Err(Refusal { number, line: 0 });
+        let refusal = |number| Err(Refusal::new(number, 0));
         assert_eq!(record(A).write(&mut short), refusal(17));
         assert_eq!(Record::EMPTY.write(&mut short), refusal(15));
         assert!(short.iter().all(|&byte| byte == b'.'));

@@ -1,7 +1,7 @@
 //! The sheets that document 01 names, and the codes that document 000 prints (its tables 3.1 to 3.5), as text.
 
 use crate::random::Random;
-use crate::sheet::{Letter, Row, Sheet};
+use crate::sheet::{self, Letter, Row, Sheet};
 
 /// The five-qubit code, as in table 3.2.
 pub const A: &str = "\
@@ -182,6 +182,11 @@ pub fn repetition(n: usize) -> String {
     format!("n={n}\nd=1\n{generators}x=+{all_x}\nz=+{first_z}\nw={first_z}\n")
 }
 
+/// A row as it stands in a sheet.
+pub fn row(text: &str) -> Row {
+    sheet::row(text.as_bytes(), text.len() - 1).expect("a sign and letters")
+}
+
 /// A sheet with r generators, whose rows are any letters: of lawful form, and nothing more.
 pub fn any_rows(random: &mut Random, n: usize, r: usize, d: usize) -> Sheet {
     Sheet {
@@ -195,11 +200,14 @@ pub fn any_rows(random: &mut Random, n: usize, r: usize, d: usize) -> Sheet {
 }
 
 fn rows(random: &mut Random, count: usize, n: usize) -> Vec<Row> {
-    let row = |_| Row {
+    (0..count).map(|_| any_row(random, n)).collect()
+}
+
+pub fn any_row(random: &mut Random, n: usize) -> Row {
+    Row {
         minus: random.pick(&[false, true]),
         letters: letters(random, n),
-    };
-    (0..count).map(row).collect()
+    }
 }
 
 fn letters(random: &mut Random, n: usize) -> Vec<Letter> {

@@ -33,7 +33,7 @@ pub struct Row {
 }
 
 impl Row {
-    fn text(&self) -> Vec<u8> {
+    pub(crate) fn text(&self) -> Vec<u8> {
         let sign = if self.minus { b'-' } else { b'+' };
         [vec![sign], letters_text(&self.letters)].concat()
     }
@@ -43,11 +43,25 @@ fn letters_text(letters: &[Letter]) -> Vec<u8> {
     letters.iter().map(|l| l.byte()).collect()
 }
 
-/// What 01's table of refusals has in every line: the number, and the line named (0 where none is).
+/// What 01's table of refusals has in every line: the number, and the line named (0 where none is). 6 to 10 are about a row, and have the
+/// letter of its key too.
 #[derive(Clone, Copy, PartialEq, Eq, Debug)]
 pub struct Refusal {
     pub number: u32,
     pub line: usize,
+    pub family: Option<char>,
+}
+
+impl Refusal {
+    /// A refusal that has no family.
+    pub(crate) fn new(number: u32, line: usize) -> Refusal {
+        let family = None;
+        Refusal {
+            number,
+            line,
+            family,
+        }
+    }
 }
 
 #[derive(Clone, PartialEq, Eq, Debug)]
@@ -80,14 +94,14 @@ impl Sheet {
     }
 }
 
-fn line(key: &str, value: &[u8]) -> Vec<u8> {
+pub(crate) fn line(key: &str, value: &[u8]) -> Vec<u8> {
     [key.as_bytes(), value, b"\n"].concat()
 }
 
 /// Reads the lines of a sheet, and leaves what stands behind w, as a report does. Gives the count of bytes used beside the sheet.
 pub fn read_lines(bytes: &[u8]) -> Result<(Sheet, usize), Refusal> {
     if bytes.len() > 4096 {
-        return Err(Refusal { number: 1, line: 0 });
+        return Err(Refusal::new(1, 0));
     }
     let mut lines = Lines {
         rest: bytes,
@@ -95,11 +109,11 @@ pub fn read_lines(bytes: &[u8]) -> Result<(Sheet, usize), Refusal> {
     };
     let n = lines.take("n=", one_or_two_digits)?;
     if !(2..=24).contains(&n) {
-        return Err(Refusal { number: 3, line: 1 });
+        return Err(Refusal::new(3, 1));
     }
     let d = lines.take("d=", one_digit)?;
     if !(1..=7).contains(&d) {
-        return Err(Refusal { number: 4, line: 2 });
+        return Err(Refusal::new(4, 2));
     }
     let generators = read_generators(&mut lines, n)?;
     let k = n - generators.len();
@@ -119,7 +133,7 @@ pub fn read_alone(bytes: &[u8]) -> Result<Sheet, Refusal> {
     let (sheet, used) = read_lines(bytes)?;
     if used < bytes.len() {
         let line = sheet.lines() + 1;
-        return Err(Refusal { number: 2, line });
+        return Err(Refusal::new(2, line));
     }
     Ok(sheet)
 }
@@ -150,8 +164,7 @@ impl Lines<'_> {
     }
 
     fn refusal(&self, number: u32) -> Refusal {
-        let line = self.next;
-        Refusal { number, line }
+        Refusal::new(number, self.next)
     }
 
     /// Takes the next line and gives its value. The refusal is 2 where there is no such line: no line feed, not this key, or a value
@@ -191,7 +204,7 @@ fn one_or_two_digits(value: &[u8]) -> Option<usize> {
     }
 }
 
-fn row(value: &[u8], n: usize) -> Option<Row> {
+pub(crate) fn row(value: &[u8], n: usize) -> Option<Row> {
     let (sign, rest) = value.split_first()?;
     let minus = match sign {
         b'+' => false,
@@ -327,10 +340,7 @@ mod tests {
             let text = A.to_string() + behind;
             assert_eq!(read_lines(text.as_bytes()), Ok((read(A), A.len())));
             let line = 10;
-            assert_eq!(
-                read_alone(text.as_bytes()),
-                Err(Refusal { number: 2, line })
-            );
+            assert_eq!(read_alone(text.as_bytes()), Err(Refusal::new(2, line)));
         }
     }
 

@@ -1,54 +1,32 @@
-// Reads sheets and writes them back. Standard input is a run of frames: two digits, the number of a change; a space; five digits, how many
-// bytes follow; a line feed; and those bytes, a text. For each text it writes what the reader of the lines answers, numbers of the record
-// beside that answer, and what is behind the lines; and what the reader of a sheet by itself answers. Then the record is changed, and
-// written three times: into a buffer that is a byte shorter than the lines that were read, into one of their length, and into one with
-// three bytes more. Each buffer is shown.
-use libc::STDIN_FILENO;
-use libc::STDOUT_FILENO;
+// Reads sheets and writes them back. Standard input is a run of cases, each with the number of a change and a text. For each text it writes
+// what the reader of the lines answers, numbers of the record beside that answer, and what is behind the lines; and what the reader of a
+// sheet by itself answers. Then the record is changed, and written three times: into a buffer that is a byte shorter than the lines that
+// were read, into one of their length, and into one with three bytes more. Each buffer is shown.
+use cases::Case;
+use cases::above;
+use cases::dots;
+use cases::one_less;
+use cases::print;
+use cases::print_buffer;
+use cases::print_number;
+use cases::print_refusal;
+use cases::print_written;
+use cases::turned;
+use cases::with_bits;
 use pauli::Pauli;
 use sheet::Code;
 use sheet::Family;
 use sheet::Lines;
-use sheet::Refusal;
-use sheet::Written;
-ghost use mathlib.Core.Path.{_≡_};
-ghost use Prim.Native.Nat.{_≤_};
-ghost use lib.ListN.{length};
 
-// Answers frames up to the end of the input, and 65,536 at most, so that the loop has an end. The buffer has as many bytes, so no text of
-// a frame is longer.
+// Answers cases up to the end of the input, and 65,536 at most, so that the loop has an end.
 fn main() {
-    let mut header = [0u8; 9];
     let mut text = io::large_buffer();
     for _ in 0..65536usize {
-        if !answer_frame(&mut header, &mut text) {
+        let Case::Got { change, len } = cases::read_case(&mut text) else {
             return;
-        }
+        };
+        answer(&text[0..len], change);
     }
-}
-
-// Answers the next frame of the input, where there is one.
-fn answer_frame(header: &mut [u8], text: &mut [u8]) -> bool {
-    if io::read_full(STDIN_FILENO, &mut *header) < 9 {
-        return false;
-    }
-    let change = number(&header[0..2]);
-    let len = number(&header[3..8]);
-    if text.len() < len {
-        return false;
-    }
-    let got = io::read_full(STDIN_FILENO, &mut text[0..len]);
-    answer(&text[0..got], change);
-    true
-}
-
-// The number that digits say. From five digits, the most that a header has, `% 100000` takes nothing away; with more it keeps the number small.
-fn number(digits: &[u8]) -> usize {
-    let mut number: usize = 0;
-    for i in 0..digits.len() {
-        number = number % 100000 * 10 + (digits[i] % 16) as usize;
-    }
-    number
 }
 
 fn answer(text: &[u8], change: usize) {
@@ -85,29 +63,6 @@ fn print_lines(answer: Lines) {
         Lines::Read { used } => print_number(used),
         Lines::Refused(refusal) => print_refusal(refusal),
     }
-}
-
-fn print_written(written: Written) {
-    match written {
-        Written::Count(count) => print_number(count),
-        Written::Refused(refusal) => print_refusal(refusal),
-    }
-}
-
-fn print_refusal(refusal: Refusal) {
-    print(b" r=");
-    io::print_decimal(STDOUT_FILENO, refusal.number() as u64);
-    print(b" at=");
-    io::print_decimal(STDOUT_FILENO, refusal.line() as u64);
-}
-
-fn print_number(number: usize) {
-    print(b" ");
-    io::print_decimal(STDOUT_FILENO, number as u64);
-}
-
-fn print(text: &[u8]) {
-    io::write_all(STDOUT_FILENO, text);
 }
 
 fn print_numbers(code: Code) {
@@ -152,48 +107,20 @@ fn write_thrice(code: Code, used: usize) {
     if 1357 < used {
         return;
     }
+    let mut short = dots();
     print(b"short");
-    write_into(code, one_less(used));
+    write_into(code, &mut short[0..one_less(used)]);
+    let mut exact = dots();
     print(b"exact");
-    write_into(code, used);
+    write_into(code, &mut exact[0..used]);
+    let mut longer = dots();
     print(b"written");
-    write_into(code, used + 3);
+    write_into(code, &mut longer[0..used + 3]);
 }
 
-// Writes the record into so many bytes, which are dots before, and shows them.
-fn write_into(code: Code, room: usize)
-    requires { ⌜ room ≤ 1360 ⌝ }
-{
-    let mut out = dots();
-    print_written(writer::write_sheet(code, &mut out[0..room]));
-    print(b"\n");
-    print_buffer(&out[0..room]);
-}
-
-// The bytes up to the last that is no dot, and how many dots follow.
-fn print_buffer(buffer: &[u8]) {
-    let mut end = buffer.len();
-    while 0 < end && buffer[end - 1] == b'.' {
-        end -= 1;
-    }
-    print(&buffer[0..end]);
-    print_number(buffer.len() - end);
-    print(b"\n");
-}
-
-fn dots() -> [u8; 1360]
-    ensures { λ r. ⌜ 1360 ≡ length r ⌝ }
-{
-    [b'.'; 1360]
-}
-
-fn one_less(m: usize) -> usize
-    ensures { λ r. ⌜ r ≤ m ⌝ }
-{
-    if m == 0 {
-        return 0;
-    }
-    m - 1
+fn write_into(code: Code, out: &mut [u8]) {
+    print_written(writer::write_sheet(code, &mut *out));
+    print_buffer(out);
 }
 
 // The record with one thing changed, by the number of the change: n, r or d up to 10, w up to 13, every phase with 14, then a generator, and
@@ -255,35 +182,12 @@ fn changed_logical(code: Code, change: usize) -> Code {
     }
 }
 
-// The mask with the bit behind that of qubit n.
-fn above(n: usize) -> u32 {
-    1u32 << (n % 32) as u32
-}
-
 // The place of the first logical row that is not used.
 fn unused_logical(n: usize, r: usize) -> usize {
     if r < n {
         return n - r;
     }
     0
-}
-
-// The row with i to the power of so many more.
-fn turned(row: Pauli, more: u32) -> Pauli {
-    Pauli {
-        p: row.p % 4 + more % 8,
-        a: row.a,
-        b: row.b,
-    }
-}
-
-// The row with these bits in its masks as well.
-fn with_bits(row: Pauli, a: u32, b: u32) -> Pauli {
-    Pauli {
-        p: row.p,
-        a: row.a | a,
-        b: row.b | b,
-    }
 }
 
 fn with_row(code: Code, family: Family, place: usize, row: Pauli) -> Code {

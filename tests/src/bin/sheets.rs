@@ -1,71 +1,31 @@
 //! What the program `sheets` has to write: the reading of each text, both ways, with the record beside it and the bytes behind it, and
 //! what the writer makes of that record once it is changed.
 //!
-//! `sheets cases` writes frames; `sheets answers` reads frames and writes an answer for each. A frame is two digits (the change), a
-//! space, five digits (the count of bytes of the text), a line feed, and the text.
+//! `sheets cases` writes the cases; `sheets answers` reads them and writes an answer for each.
 
+use independent::cases::{self, line, Case};
 use independent::damage;
 use independent::random::Random;
 use independent::record::{Pauli, Record};
 use independent::samples::{self, A, K, NINE, TABLE_3_3};
-use independent::sheet::{self, Letter, Refusal};
-use std::collections::HashSet;
-use std::io::{self, Read, Write};
+use independent::sheet::{self, Letter};
 
 type Texts = Vec<Vec<u8>>;
 
-const HEADER: usize = 9;
 const LAST_CHANGE: usize = 27;
-
-#[derive(Clone, PartialEq, Eq, Hash)]
-struct Frame {
-    change: usize,
-    text: Vec<u8>,
-}
-
-impl Frame {
-    fn bytes(&self) -> Vec<u8> {
-        let len = self.text.len();
-        assert!(len <= 65535);
-        let header = format!("{:02} {len:05}\n", self.change);
-        [header.as_bytes(), &self.text].concat()
-    }
-}
-
-fn frames(mut bytes: &[u8]) -> Vec<Frame> {
-    let mut frames = Vec::new();
-    while !bytes.is_empty() {
-        let (header, rest) = bytes.split_at(HEADER);
-        let (change, len) =
-            numbers(header).expect("a header: two digits, a space, five digits, a line feed");
-        let (text, rest) = rest.split_at(len);
-        frames.push(Frame {
-            change,
-            text: text.to_vec(),
-        });
-        bytes = rest;
-    }
-    frames
-}
-
-fn numbers(header: &[u8]) -> Option<(usize, usize)> {
-    let header = std::str::from_utf8(header).ok()?;
-    let (change, len) = header.strip_suffix('\n')?.split_once(' ')?;
-    Some((change.parse().ok()?, len.parse().ok()?))
-}
 
 /// The reading of the lines, the record beside it and what is behind them; the reading of a sheet by itself, and the numbers of its
 /// record; then what the writer makes of the changed record with a byte less than the lines took, with as many, and with three more.
-fn answer(frame: &Frame) -> Vec<u8> {
-    let reading = sheet::read_lines(&frame.text);
+fn answer(case: &Case) -> Vec<u8> {
+    let reading = sheet::read_lines(&case.text);
     let (lines, mut record, used, behind) = match &reading {
         Ok((sheet, used)) => {
             let lines = Ok(format!("{used} {}", sheet.lines() + 1));
-            (lines, Record::of(sheet), *used, &frame.text[*used..])
+            (lines, Record::of(sheet), *used, &case.text[*used..])
         }
         Err(refusal) => (Err(*refusal), Record::EMPTY, 0, &[][..]),
     };
-    let alone = sheet::read_alone(&frame.text);
+    let alone = sheet::read_alone(&case.text);
     let alone_record = alone.as_ref().map_or(Record::EMPTY, Record::of);
     let mut answer = [
         line("lines", lines),
@@ -75,12 +35,13 @@ fn answer(frame: &Frame) -> Vec<u8> {
     .concat()
     .into_bytes();
     answer.extend(shown_behind(behind));
-    answer.extend(line("alone", alone.map(|_| frame.text.len())).bytes());
+    answer.extend(line("alone", alone.map(|_| case.text.len())).bytes());
     answer.extend(numbers_of(&alone_record).bytes());
-    change(&mut record, frame.change);
-    answer.extend(written("short", &record, used.saturating_sub(1)));
-    answer.extend(written("exact", &record, used));
-    answer.extend(written("written", &record, used + 3));
+    change(&mut record, case.change);
+    let written = |name, room| cases::written(name, room, |out| record.write(out));
+    answer.extend(written("short", used.saturating_sub(1)));
+    answer.extend(written("exact", used));
+    answer.extend(written("written", used + 3));
     answer
 }
 
@@ -104,25 +65,6 @@ fn shown_behind(bytes: &[u8]) -> Vec<u8> {
         return count;
     }
     [&count, bytes, b"\n"].concat()
-}
-
-/// What the writer answers, and its buffer of so many bytes. They are dots before, so that it can be seen what was written: up to the last
-/// byte that is no dot, and how many dots follow.
-fn written(name: &str, record: &Record, room: usize) -> Vec<u8> {
-    let mut buffer = vec![b'.'; room];
-    let answer = line(name, record.write(&mut buffer));
-    let last = buffer.iter().rposition(|&byte| byte != b'.');
-    let shown = &buffer[..last.map_or(0, |last| last + 1)];
-    let dots = format!(" {}\n", room - shown.len());
-    [answer.as_bytes(), shown, dots.as_bytes()].concat()
-}
-
-fn line(name: &str, answer: Result<impl ToString, Refusal>) -> String {
-    let value = match answer {
-        Ok(value) => value.to_string(),
-        Err(Refusal { number, line }) => format!("r={number} at={line}"),
-    };
-    format!("{name} {value}\n")
 }
 
 /// The changes of a record, by number. Rows count from 0 here, so the first generator that is not used is `g[r]`.
@@ -168,11 +110,10 @@ fn add_4_to_each_phase(record: &mut Record) {
     }
 }
 
-/// All frames, each once.
-fn cases() -> Vec<Frame> {
+fn cases() -> Vec<Case> {
     let mut random = Random(0x5eed_0005_4ee7);
-    let mut frames = well_formed(&mut random);
-    frames.extend(changed(&mut random));
+    let mut cases = well_formed(&mut random);
+    cases.extend(changed(&mut random));
     let unchanged = [
         samples::all().into_iter().map(String::into_bytes).collect(),
         truncated(&mut random),
@@ -185,10 +126,8 @@ fn cases() -> Vec<Frame> {
         large(&mut random),
     ];
     let unchanged = unchanged.into_iter().flatten();
-    frames.extend(unchanged.map(|text| Frame { change: 0, text }));
-    let mut seen = HashSet::new();
-    frames.retain(|frame| seen.insert(frame.clone()));
-    frames
+    cases.extend(unchanged.map(|text| Case { change: 0, text }));
+    cases
 }
 
 fn any_rows(random: &mut Random, n: usize, r: usize, d: usize) -> Vec<u8> {
@@ -197,25 +136,25 @@ fn any_rows(random: &mut Random, n: usize, r: usize, d: usize) -> Vec<u8> {
 
 /// Every n, with as few and as many generators as there can be, and twice with any count of them, where the record is changed in some
 /// way; every d.
-fn well_formed(random: &mut Random) -> Vec<Frame> {
-    let mut frames = Vec::new();
+fn well_formed(random: &mut Random) -> Vec<Case> {
+    let mut cases = Vec::new();
     for n in 2..=24 {
         for r in [1, n - 1] {
             let text = any_rows(random, n, r, 1 + (n + r) % 7);
-            frames.push(Frame { change: 0, text });
+            cases.push(Case { change: 0, text });
         }
         for _ in 0..2 {
             let (r, d) = (1 + random.index(n - 1), 1 + random.index(7));
             let change = 1 + random.index(LAST_CHANGE);
             let text = any_rows(random, n, r, d);
-            frames.push(Frame { change, text });
+            cases.push(Case { change, text });
         }
     }
-    frames
+    cases
 }
 
 /// Each change, on records of several sizes, the smallest and the longest among them, and on the record beside a refused reading.
-fn changed(random: &mut Random) -> Vec<Frame> {
+fn changed(random: &mut Random) -> Vec<Case> {
     let longest = any_rows(random, 24, 1, 6);
     assert_eq!(longest.len(), 1352);
     let texts = [
@@ -231,14 +170,14 @@ fn changed(random: &mut Random) -> Vec<Frame> {
         // refused at the last line: what was read of the others is not in the record either
         A.replace("w=IYYIX", "w=IYYI").into(),
     ];
-    let mut frames = Vec::new();
+    let mut cases = Vec::new();
     for text in texts {
         for change in 1..=LAST_CHANGE {
             let text = text.clone();
-            frames.push(Frame { change, text });
+            cases.push(Case { change, text });
         }
     }
-    frames
+    cases
 }
 
 /// Two short sheets up to each byte, and longer ones up to some.
@@ -437,18 +376,5 @@ fn large(random: &mut Random) -> Texts {
 }
 
 fn main() {
-    let bytes = match std::env::args().nth(1).as_deref() {
-        Some("cases") => cases().iter().flat_map(Frame::bytes).collect(),
-        Some("answers") => {
-            let mut bytes = Vec::new();
-            io::stdin()
-                .read_to_end(&mut bytes)
-                .expect("bytes on standard input");
-            frames(&bytes).iter().flat_map(answer).collect::<Vec<u8>>()
-        }
-        _ => panic!("sheets cases, or sheets answers < frames"),
-    };
-    io::stdout()
-        .write_all(&bytes)
-        .expect("standard output is open");
+    cases::run(cases, answer);
 }

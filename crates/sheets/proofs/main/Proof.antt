@@ -1,16 +1,17 @@
--- Each turn answers a frame, of at most 65,536.
+-- Each turn answers a case, of at most 65,536.
 use mathlib.Core.Path.{_≡_}
 use Prim.Native.Nat.{_≤_, _-_}
+use native.Mathlib.Omega.{arith}
 use lib.ListN.{length}
 use borrow.Author.Needs.{needs}
 use Rattle.sheets.proofs.main.Statement.{statement}
 use Rattle.sheets.proofs.main.Tie as tie
 
 abbrev Inv-loop : tie.InvT-loop
-Inv-loop header₀ text₀ counter₀ header text counter = (9 ≡ length header) × (65536 ≡ length text) × (counter ≤ 65536)
+Inv-loop text₀ counter₀ text counter = (65536 ≡ length text) × (counter ≤ 65536)
 
 abbrev μ-loop : tie.MeasureT-loop
-μ-loop header₀ text₀ counter₀ header text counter = 65536 - counter
+μ-loop text₀ counter₀ text counter = 65536 - counter
 
 large-buffer-requires : tie.Need-large-buffer-requires Inv-loop μ-loop
 large-buffer-requires c κs = search needs
@@ -18,17 +19,34 @@ large-buffer-requires c κs = search needs
 loop-holds : tie.Need-loop-holds Inv-loop μ-loop
 loop-holds c = search needs
 
-slice-aggregate-answer-frame : tie.Need-slice-aggregate-answer-frame Inv-loop μ-loop
-slice-aggregate-answer-frame c = search needs
+slice-aggregate-read-case : tie.Need-slice-aggregate-read-case Inv-loop μ-loop
+slice-aggregate-read-case c = search needs
 
-slice-aggregate-answer-frame-2 : tie.Need-slice-aggregate-answer-frame-2 Inv-loop μ-loop
-slice-aggregate-answer-frame-2 c = search needs
+read-case-requires : tie.Need-read-case-requires Inv-loop μ-loop
+read-case-requires c κs = search needs
 
-answer-frame-requires : tie.Need-answer-frame-requires Inv-loop μ-loop
-answer-frame-requires c κs = search needs
+enum-known-change : tie.Need-enum-known-change Inv-loop μ-loop
+enum-known-change c = search needs
+
+enum-told : tie.Need-enum-told Inv-loop μ-loop
+enum-told c = search needs
 
 returns : tie.Need-returns Inv-loop μ-loop
 returns c = search needs
+
+sub-answer : tie.Need-sub-answer Inv-loop μ-loop
+sub-answer c = search needs
+
+part-answer-start : tie.Need-part-answer-start Inv-loop μ-loop
+part-answer-start c = search needs
+
+part-answer-end : tie.Need-part-answer-end Inv-loop μ-loop
+part-answer-end c =
+    let case = c .before .before .before .before .before .read-case in
+    omega (arith, (rw (c .before .before .change .given .1) at (case .ensures)) .0)
+
+answer-requires : tie.Need-answer-requires Inv-loop μ-loop
+answer-requires c κs = search needs
 
 add-counter : tie.Need-add-counter Inv-loop μ-loop
 add-counter c = search needs
@@ -50,10 +68,15 @@ main-spec =
     μ-loop
     large-buffer-requires
     loop-holds
-    slice-aggregate-answer-frame
-    slice-aggregate-answer-frame-2
-    answer-frame-requires
+    slice-aggregate-read-case
+    read-case-requires
+    enum-known-change
+    enum-told
     returns
+    sub-answer
+    part-answer-start
+    part-answer-end
+    answer-requires
     add-counter
     loop-less
     loop-again

@@ -1,18 +1,24 @@
--- Each step leaves a small number.
-use Prim.Native.Nat.{_≤_, _-_}
-use lib.ListN.{length}
+-- Each step takes one digit more.
+use mathlib.Core.Path.{_≡_, refl, ap, _∙_}
+use Prim.Native.Nat.{_≤_, _+_, _-_, _*_, _%_}
+use native.Mathlib.Omega.{arith}
+use lib.ListN.{length, take, getD}
+use lib.Seq.{take-all}
 use borrow.Author.Needs.{needs}
-use Rattle.sheets.proofs.number.Statement.{statement}
-use Rattle.sheets.proofs.number.Tie as tie
+use Rattle.cases.specs.Cases.{said}
+use Rattle.cases.proofs.Bytes.{said-more}
+use Rattle.cases.proofs.number.Statement.{statement}
+use Rattle.cases.proofs.number.Tie as tie
 
 abbrev Inv-loop : tie.InvT-loop
-Inv-loop digits number₀ i₀ i-end number i = i ≤ length digits
+Inv-loop digits number₀ i₀ i-end number i = (i ≤ length digits) × (number ≡ said (take i digits) % 1000000)
 
 abbrev μ-loop : tie.MeasureT-loop
 μ-loop digits number₀ i₀ i-end number i = length digits - i
 
 loop-holds : tie.Need-loop-holds Inv-loop μ-loop
-loop-holds c = search needs
+unfolding said
+loop-holds c = (omega arith, refl)
 
 mul-number : tie.Need-mul-number Inv-loop μ-loop
 mul-number c = search needs
@@ -33,10 +39,15 @@ loop-less : tie.Need-loop-less Inv-loop μ-loop
 loop-less c = search needs
 
 loop-again : tie.Need-loop-again Inv-loop μ-loop
-loop-again c = search needs
+loop-again c =
+    let at = c .before .before in
+    let s = at .before .args .digits .now in
+    (search needs, ap (λ m. (m * 10 + getD s (at .loop .i) 0 % 16) % 1000000) (at .loop .inv .1) ∙ said-more s (at .loop .i) (search needs))
 
 returns : tie.Need-returns Inv-loop μ-loop
-returns c = search needs
+returns c =
+    let s = c .before .before .args .digits .now in
+    c .before .loop .inv .1 ∙ ap (λ s. said s % 1000000) (take-all (c .before .loop .i) s (search needs))
 
 pub number-spec : {M : Type 1} → statement M
 number-spec =
