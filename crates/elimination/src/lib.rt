@@ -116,6 +116,7 @@ fn cleared(n: u32, h: Pauli, p: Pauli) -> Pauli
 }
 
 impl ReducedRows {
+    // No row of n qubits yet.
     fn empty(n: u32) -> ReducedRows
         ensures { λ r. ⌜ r ≡ reducedOf n [] ⌝ }
     {
