@@ -1,5 +1,5 @@
 -- The first rows of a list, one by one from the front.
-use mathlib.Core.Bool.{Bool, true, false}
+use mathlib.Core.Bool.{Bool, true, false, _||_}
 use mathlib.Core.List.{List, [], _∷_}
 use mathlib.Core.Logic.{_⊎_, inl, ⊎-elim}
 use mathlib.Core.Path.{_≡_, ap, ap₂, sym, _∙_}
@@ -11,6 +11,7 @@ use lib.Seq.{drop-cons, getD-take}
 use Rattle.pauli.specs.declared.Pauli.{Pauli}
 use Rattle.pauli.specs.Lists.{anyOf}
 use Rattle.pauli.specs.Product.{identity}
+use Rattle.stabilizer.proofs.Tests.{any-cons}
 
 module _ (rows : List Pauli) (count place : ℕ) where
   pub taken-at : place < count → place < length rows → drop place (take count rows) ≡ getD rows place identity ∷ drop (place + 1) (take count rows)
@@ -27,10 +28,10 @@ module _ (rows : List Pauli) (count place : ℕ) where
 -- A test of each of them.
 module _ (test : Pauli → Bool) (rows : List Pauli) (count place : ℕ) where
   any-by : {t : Bool} → place < count → place < length rows → test (getD rows place identity) ≡ t
-      → anyOf test (drop place (take count rows)) ≡ elim t [ true ↦ true | false ↦ anyOf test (drop (place + 1) (take count rows)) ]
-  unfolding anyOf
+      → anyOf test (drop place (take count rows)) ≡ (t || anyOf test (drop (place + 1) (take count rows)))
   any-by few inside e =
-      ap (anyOf test) (taken-at rows count place few inside) ∙ ap (λ t. elim t [ true ↦ true | false ↦ anyOf test (drop (place + 1) (take count rows)) ]) e
+      ap (anyOf test) (taken-at rows count place few inside) ∙ any-cons test (getD rows place identity) (drop (place + 1) (take count rows))
+      ∙ ap (λ t. t || anyOf test (drop (place + 1) (take count rows))) e
 
   pub any-here : place < count → place < length rows → test (getD rows place identity) ≡ true → anyOf test (drop place (take count rows)) ≡ true
   any-here few inside e = any-by few inside e
