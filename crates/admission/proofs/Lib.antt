@@ -1,2 +1,10 @@
+pub mod Earliest
+pub mod Light
+pub mod Halves
+pub mod Admitted
+pub mod Written
+pub mod Pair
+pub mod Numbers
+pub mod Phases
 pub mod Starred
 pub mod Examples

@@ -17,7 +17,7 @@ use Rattle.sheet.specs.declared.ErrorPair.{ErrorPair}
 use Rattle.sheet.specs.declared.Refusal.{Refusal}
 use Rattle.sheet.specs.Record.{generators, radius, onQubits, claimAt, withinLimits}
 use Rattle.sheet.specs.Refusals.{values}
-use Rattle.sheet.specs.Statements.{RefusalLeaves, Among}
+use Rattle.sheet.specs.Statements.{Sized, RefusalLeaves, Among}
 use Rattle.sheet.specs.Text.{laid, untouched}
 use Rattle.stabilizer.specs.Group.{InGroupUpToPhase}
 use Rattle.admission.specs.declared.Admission.{Admission}
@@ -33,6 +33,14 @@ abbrev pub HighBitsChangeNothing : Type 0
 HighBitsChangeNothing =
     (c : Code) (P : Pauli) → withinLimits c ≡ true
     → syndrome (generators c) P ≡ syndrome (generators c) (record { p = P .p; a = P .a % 2 ^ c .n; b = P .b % 2 ^ c .n })
+
+-- 01: "The syndrome of a Pauli has one bit for each g row": r bits, of a record as a machine holds it, and so under an
+-- admitted sheet.
+pub record SyndromesHaveRBits : Type 0 where
+  pub ofRecord : (c : Code) (P : Pauli) → Sized c → withinLimits c ≡ true
+      → length (syndrome (generators c) P) ≡ c .r
+  pub ofSheet : (s : List ℕ) (P : Pauli) → readSheet s .answer ≡ Admission.Admitted
+      → length (syndrome (generators (readSheet s .code)) P) ≡ readSheet s .code .r
 
 -- ---- what a refusal leaves
 

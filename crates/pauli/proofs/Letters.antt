@@ -41,13 +41,13 @@ shr-suc m j = ap (λ (k : ℕ). m / 2 ^ k) (omega arith) ∙ sym (shr-shr m 1 j)
 
 -- ---- a letter and its two bits
 
-xBit-lt : (l : Letter) → xBit l < 2
+pub xBit-lt : (l : Letter) → xBit l < 2
 xBit-lt I = lit< tt
 xBit-lt X = lit< tt
 xBit-lt Y = lit< tt
 xBit-lt Z = lit< tt
 
-zBit-lt : (l : Letter) → zBit l < 2
+pub zBit-lt : (l : Letter) → zBit l < 2
 zBit-lt I = lit< tt
 zBit-lt X = lit< tt
 zBit-lt Y = lit< tt

@@ -6,5 +6,6 @@ pub mod Syndrome
 pub mod Letters
 pub mod Rows
 pub mod Order
+pub mod First
 pub mod Table
 pub mod Examples

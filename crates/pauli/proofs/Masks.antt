@@ -25,10 +25,10 @@ digit P p0 p1 m = go (m % 2) (mod-lt m (omega arith))
 pub by-halves : (m n : ℕ) → m / 2 ≡ n / 2 → m % 2 ≡ n % 2 → m ≡ n
 by-halves m n halves lowest = omega arith
 
-xor-half : (a b : ℕ) → bitXor a b / 2 ≡ bitXor (a / 2) (b / 2)
+pub xor-half : (a b : ℕ) → bitXor a b / 2 ≡ bitXor (a / 2) (b / 2)
 xor-half a b = xor-shr a b 1
 
-xor-low : (a b : ℕ) → bitXor a b % 2 ≡ bitXor (a % 2) (b % 2)
+pub xor-low : (a b : ℕ) → bitXor a b % 2 ≡ bitXor (a % 2) (b % 2)
 xor-low a b = xor-mod a b 1
 
 pub and-half : (a b : ℕ) → bitAnd a b / 2 ≡ bitAnd (a / 2) (b / 2)

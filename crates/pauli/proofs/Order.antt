@@ -3,7 +3,7 @@
 -- The strings of a weight are taken by their first letter: between two that begin differently its rank decides, and an equal first letter keeps the order.
 use mathlib.Core.HLevel.{⊥-prop, ×-prop, hedberg}
 use mathlib.Core.List.{List, [], _∷_, map, flatMap, mem-append, List·Nodup, Pairwise, Pairwise·nil, Pairwise·imp, Pairwise·map, pairwise-append, pairwise-singleton}
-use mathlib.Core.List.{List·Memᴰ, List·Memᴰ·head, List·Memᴰ·not-nil, List·Memᴰ·append-cases, List·Memᴰ·eq-of-singleton}
+use mathlib.Core.List.{List-discrete, List·Memᴰ, List·Memᴰ·head, List·Memᴰ·not-nil, List·Memᴰ·append-cases, List·Memᴰ·eq-of-singleton}
 use mathlib.Core.List.{Memᴰ·append-left, Memᴰ·append-right, Memᴰ·map, Memᴰ·of-map}
 use mathlib.Core.Logic.{_⊎_, inl, inr, ⊎-elim, ⊎-map, by-cases, ∥∥₁-elim, Or·elim, Iff·or, Iff·trans}
 use mathlib.Core.Path.{_≡_, refl, ap, sym, subst, _∙_}
@@ -63,6 +63,9 @@ letter-at-rank l = elim l [ I ↦ refl | X ↦ refl | Y ↦ refl | Z ↦ refl ]
 rank-injective : (l m : Letter) → rank l ≡ rank m → l ≡ m
 rank-injective l m e = cc (letter-at-rank l, letter-at-rank m)
 
+pub strings-discrete : Discrete (List Letter)
+strings-discrete = List-discrete λ l m. map-dec (rank-injective l m) (ap rank) (ℕ-discrete (rank l) (rank m))
+
 -- ---- the first letter that differs
 
 smaller-irreflexive : (s : List Letter) → SmallerLetter s s → ⊥
@@ -95,7 +98,7 @@ smaller-prop (l ∷ s) (m ∷ t) = step-prop rank rank-injective (smaller-prop s
 
 -- ---- the weight first
 
-earlier-prop : (s t : List Letter) → IsProp (Earlier s t)
+pub earlier-prop : (s t : List Letter) → IsProp (Earlier s t)
 unfolding Earlier
 earlier-prop s t = step-prop (λ n. n) (λ m n e. e) (smaller-prop s t)
 

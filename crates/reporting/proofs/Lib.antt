@@ -1,3 +1,13 @@
+pub mod Lists
+pub mod Syndromes
 pub mod Report
+pub mod Brief
+pub mod BriefReading
+pub mod Fits
+pub mod Call
+pub mod Guarantee
+pub mod Steps
+pub mod Behind
+pub mod Every
 pub mod Starred
 pub mod Examples

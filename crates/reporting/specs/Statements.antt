@@ -1,29 +1,46 @@
 -- What is stated of the report.
-use mathlib.Core.Bool.{Bool}
+use mathlib.Core.Bool.{Bool, true}
 use mathlib.Core.List.{List, [], _∷_, _++_, map, flatMap, List·Mem}
+use mathlib.Core.Logic.{_⊎_}
 use mathlib.Core.Option.{some}
 use mathlib.Core.Path.{_≡_}
-use Prim.Native.Nat.{ℕ, _≤_}
+use Prim.Native.Nat.{ℕ, _+_, _≤_, _<_}
 use lib.ListN.{length}
 use Rattle.pauli.specs.declared.Pauli.{Pauli}
-use Rattle.pauli.specs.Letters.{letterByte}
+use Rattle.pauli.specs.Letters.{letterByte, letterText}
+use Rattle.pauli.specs.Lists.{bytes}
+use Rattle.pauli.specs.Product.{weight}
 use Rattle.pauli.specs.Syndrome.{syndrome}
 use Rattle.sheet.specs.declared.Code.{Code}
+use Rattle.sheet.specs.declared.ErrorPair.{ErrorPair}
 use Rattle.sheet.specs.declared.Refusal.{Refusal}
-use Rattle.sheet.specs.Reader.{got, readForm}
-use Rattle.sheet.specs.Record.{generators}
+use Rattle.sheet.specs.declared.Written.{Written}
+use Rattle.sheet.specs.Reader.{got, stop, readLines, readForm}
+use Rattle.sheet.specs.Record.{generators, claimAt, onQubits, radius}
 use Rattle.sheet.specs.Refusals.{writtenRefusal}
 use Rattle.sheet.specs.Statements.{RefusalLeaves, Among}
-use Rattle.sheet.specs.Text.{line}
+use Rattle.sheet.specs.Text.{line, decimal, laid, untouched}
 use Rattle.admission.specs.declared.Admission.{Admission}
-use Rattle.admission.specs.Admission.{codeFault, readSheet}
+use Rattle.admission.specs.Admission.{AdmissibleButForDistance, codeFault, admitted, readSheet}
+use Rattle.admission.specs.Statements.{FromEarliest}
 use Rattle.decoder.specs.Syndrome.{syndromeText}
-use Rattle.decoder.specs.Statements.{IsCorrected}
+use Rattle.decoder.specs.Statements.{IsCorrected, Refutes, RefusedForDistance}
 use Rattle.reporting.specs.Report.{codeText, correctionLine, refusalText, reportText, writeReport}
 
 -- 01: "32,768 bytes always hold its output."
 abbrev pub ReportFits : Type 0
 ReportFits = (s : List ℕ) → length (reportText s) ≤ 32768
+
+-- The call writes this text and answers its length, in every buffer of at least 32,768 bytes and in every one that is
+-- as long as the text; a shorter one is refused with 17.
+pub record IsReported (input text : List ℕ) : Type 0 where
+  pub written : (buffer : List ℕ) → (32768 ≤ length buffer) ⊎ (length text ≤ length buffer)
+      → writeReport input buffer ≡ record { answer = Written.Count (length text); buffer = laid text buffer }
+  pub short : (buffer : List ℕ) → length buffer < length text
+      → writeReport input buffer ≡ untouched (Written.Refused Refusal.ShortBuffer) buffer
+
+abbrev pub ReportIsWritten : Type 0
+ReportIsWritten = (input : List ℕ) → IsReported input (reportText input)
 
 -- The one refusal of a report's call is 17, and it leaves the buffer as it was.
 abbrev pub ReportRefusalNumbers : Type 0
@@ -53,8 +70,101 @@ SyndromesAreReported =
     → reportText (s ++ flatMap syndromeLineText syndromes)
     ≡ codeText (readSheet s .code) ++ flatMap (correctionLine (readSheet s .code)) syndromes
 
+-- The first line behind w that is not `s=`, r characters 0 or 1 and a line feed is refused with 16, whatever stands
+-- behind it.
+abbrev pub BadLinesAreReported : Type 0
+BadLinesAreReported =
+    (s : List ℕ) (syndromes : List (List Bool)) (rest : List ℕ) → readSheet s .answer ≡ Admission.Admitted
+    → ((bits : List Bool) → List·Mem bits syndromes → length bits ≡ readSheet s .code .r)
+    → ((bits : List Bool) (behind : List ℕ) → length bits ≡ readSheet s .code .r
+    → rest ≡ syndromeLineText bits ++ behind → ⊥)
+    → 0 < length rest → length (s ++ (flatMap syndromeLineText syndromes ++ rest)) ≤ 4096
+    → reportText (s ++ (flatMap syndromeLineText syndromes ++ rest))
+    ≡ refusalText (Refusal.Syndrome (claimAt (readSheet s .code) + 1 + length syndromes))
+
+-- Of an admitted sheet the report shows n, d and the generators: whatever its logicals and its w are, the report is
+-- the same.
+pub record SameCode (c c′ : Code) : Type 0 where
+  pub qubits : c .n ≡ c′ .n
+  pub rows : c .r ≡ c′ .r
+  pub distance : c .d ≡ c′ .d
+  pub generated : generators c ≡ generators c′
+
+abbrev pub LogicalsAreNotReported : Type 0
+LogicalsAreNotReported =
+    (s s′ : List ℕ) (syndromes : List (List Bool)) → readSheet s .answer ≡ Admission.Admitted
+    → readSheet s′ .answer ≡ Admission.Admitted → SameCode (readSheet s .code) (readSheet s′ .code)
+    → ((bits : List Bool) → List·Mem bits syndromes → length bits ≡ readSheet s .code .r)
+    → length (s ++ flatMap syndromeLineText syndromes) ≤ 4096
+    → length (s′ ++ flatMap syndromeLineText syndromes) ≤ 4096
+    → reportText (s ++ flatMap syndromeLineText syndromes) ≡ reportText (s′ ++ flatMap syndromeLineText syndromes)
+
+-- Every report is one of these: a refusal of the lines' form; a refusal of 6 to 14; a refusal of the first line behind
+-- w that is no syndrome's; the account of an admitted sheet, with a correction for each syndrome behind it.
+pub data ReportOf (input : List ℕ) : Type 0 where
+  unread : (refusal : Refusal) → readLines input ≡ stop refusal → reportText input ≡ refusalText refusal
+      → ReportOf input
+  faulty : (s rest : List ℕ) (c : Code) (refusal : Refusal) → input ≡ s ++ rest → readForm s ≡ got c []
+      → codeFault c ≡ some refusal → reportText input ≡ refusalText refusal → ReportOf input
+  misread : (s rest : List ℕ) (c : Code) (syndromes : List (List Bool))
+      → input ≡ s ++ (flatMap syndromeLineText syndromes ++ rest) → readSheet s ≡ admitted c
+      → ((bits : List Bool) → List·Mem bits syndromes → length bits ≡ c .r) → 0 < length rest
+      → ((bits : List Bool) (behind : List ℕ) → length bits ≡ c .r → rest ≡ syndromeLineText bits ++ behind → ⊥)
+      → reportText input ≡ refusalText (Refusal.Syndrome (claimAt c + 1 + length syndromes)) → ReportOf input
+  answered : (s : List ℕ) (c : Code) (syndromes : List (List Bool)) → input ≡ s ++ flatMap syndromeLineText syndromes
+      → readSheet s ≡ admitted c → ((bits : List Bool) → List·Mem bits syndromes → length bits ≡ c .r)
+      → reportText input ≡ codeText c ++ flatMap (correctionLine c) syndromes → ReportOf input
+
+abbrev pub EveryReport : Type 0
+EveryReport = (input : List ℕ) → ReportOf input
+
 -- Demand 3 for the `c=` line: of an error that is corrected it has the correction's letters.
 abbrev pub CorrectionsAreReported : Type 0
 CorrectionsAreReported =
     (c : Code) (E : Pauli) (corrected : IsCorrected c E)
     → correctionLine c (syndrome (generators c) E) ≡ line "c=" (map letterByte (corrected .letters))
+
+-- ---- demand 3 as a report shows it
+
+-- "Whatever Pauli error E strikes at most t of its qubits": an error that is to be corrected.
+pub record Struck (c : Code) : Type 0 where
+  pub error : Pauli
+  pub onCode : onQubits (c .n) error ≡ true
+  pub light : weight error ≤ radius c
+
+-- The `s=` lines of the errors' syndromes.
+abbrev pub errorLines : (c : Code) → List (Struck c) → List ℕ
+errorLines c errors = flatMap (λ (E : Struck c). syndromeLineText (syndrome (generators c) (E .error))) errors
+
+-- Their `c=` lines: the letters of each error's correction.
+abbrev pub correctedLines : (c : Code) → ((E : Struck c) → IsCorrected c (E .error)) → List (Struck c) → List ℕ
+correctedLines c corrected errors =
+    flatMap (λ (E : Struck c). line "c=" (map letterByte (corrected E .letters))) errors
+
+-- The lines `r=14`, `at=` with w's line, `e=` and `f=`.
+abbrev pub refutationText : Code → ErrorPair → List ℕ
+refutationText c pair =
+    bytes "r=14\n" ++ line "at=" (decimal (claimAt c)) ++ line "e=" (letterText (c .n) (pair .e))
+    ++ line "f=" (letterText (c .n) (pair .f))
+
+-- The report has those four lines and no other, with two errors that refute the distance, from the earliest logical
+-- error.
+pub record RefutationIsReported (c : Code) (input : List ℕ) : Type 0 where
+  pub pair : ErrorPair
+  pub refutes : Refutes c (pair .e) (pair .f)
+  pub from : FromEarliest c pair
+  pub report : IsReported input (refutationText c pair)
+
+-- Demand 3 of the report's call. Behind an admitted sheet, the syndrome of each error that strikes at most t qubits
+-- has a `c=` line with the letters of its correction. A sheet lawful in all else that 14 refuses has a refutation as
+-- its report, whatever stands behind it.
+pub record GuaranteeInReports : Type 0 where
+  pub corrected : (s : List ℕ) → readSheet s .answer ≡ Admission.Admitted → (E : Struck (readSheet s .code))
+      → IsCorrected (readSheet s .code) (E .error)
+  pub reported : (s : List ℕ) (h : readSheet s .answer ≡ Admission.Admitted)
+      (errors : List (Struck (readSheet s .code)))
+      → length (s ++ errorLines (readSheet s .code) errors) ≤ 4096
+      → IsReported (s ++ errorLines (readSheet s .code) errors)
+      (codeText (readSheet s .code) ++ correctedLines (readSheet s .code) (corrected s h) errors)
+  pub refuted : (s rest : List ℕ) (c : Code) (refusal : Refusal) → AdmissibleButForDistance s c
+      → RefusedForDistance s refusal → length (s ++ rest) ≤ 4096 → RefutationIsReported c (s ++ rest)

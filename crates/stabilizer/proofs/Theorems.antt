@@ -15,7 +15,7 @@ use Rattle.pauli.specs.Product.{identity, modulo4, sameMasks, samePauli}
 use Rattle.sheet.specs.declared.Code.{Code}
 use Rattle.sheet.specs.declared.Family.{Family}
 use Rattle.sheet.specs.declared.Refusal.{Refusal}
-use Rattle.sheet.specs.Record.{isRow, onQubits}
+use Rattle.sheet.specs.Record.{isRow, onQubits, generators}
 use Rattle.sheet.proofs.Numbers.{IfRefused, law-of-refusal, refuseIf-lawful, then-lawful, limits-lawful, written-lawful}
 use Rattle.stabilizer.specs.Canonical.{reduced, reducesToIdentity, canonicalGenerators, canonicalText, writeCanonical}
 use Rattle.stabilizer.specs.Checks.{minusIdentity, firstFault, clash, dependence, generatorFault, groupFault}
@@ -108,21 +108,27 @@ member-sign-is-decided n rows areRows faultless P = record { found = of-sign; mi
 -- ---- refusals
 
 module _ {Law : Refusal → Type 0} where
-  first-lawful : (check : List Pauli → ℕ → Pauli → Option Refusal) → ((before : List Pauli) (at : ℕ) (P : Pauli) → IfRefused Law (check before at P))
+  pub first-lawful : (check : List Pauli → ℕ → Pauli → Option Refusal) → ((before : List Pauli) (at : ℕ) (P : Pauli) → IfRefused Law (check before at P))
       → (before : List Pauli) (at : ℕ) (rows : List Pauli) → IfRefused Law (firstFault check before at rows)
   unfolding firstFault
   first-lawful check each before at [] = IfRefused.unrefused
   first-lawful check each before at (P ∷ rows) = then-lawful (each before at P) (first-lawful check each (before ++ P ∷ []) _ rows)
 
-  -- The checks of a record's generators have the numbers 15, 6, 7 and 8.
+  -- The checks of generators have the numbers 6, 7 and 8, and those of a record's generators 15 too.
+  pub generators-lawful : (rows : List Pauli) → ((at : ℕ) (family : Family) → Law (Refusal.GeneratorsAnticommute at family))
+      → ((at : ℕ) (family : Family) → Law (Refusal.MinusIdentity at family)) → ((at : ℕ) (family : Family) → Law (Refusal.DependentGenerator at family))
+      → IfRefused Law (generatorFault rows)
+  unfolding generatorFault clash dependence
+  generators-lawful rows six seven eight =
+      let clashes = first-lawful clash (λ before at P. refuseIf-lawful _ _ (six _ _)) [] _ _ in
+      let depends = first-lawful dependence (λ before at P. then-lawful (refuseIf-lawful _ _ (seven _ _)) (refuseIf-lawful _ _ (eight _ _))) [] _ _ in
+      then-lawful clashes depends
+
   group-lawful : (c : Code) → ((at : ℕ) (family : Family) → Law (Refusal.GeneratorsAnticommute at family))
       → ((at : ℕ) (family : Family) → Law (Refusal.MinusIdentity at family)) → ((at : ℕ) (family : Family) → Law (Refusal.DependentGenerator at family))
       → Law Refusal.RecordLimits → IfRefused Law (groupFault c)
-  unfolding groupFault generatorFault clash dependence
-  group-lawful c six seven eight fifteen =
-      let clashes = first-lawful clash (λ before at P. refuseIf-lawful _ _ (six _ _)) [] _ _ in
-      let depends = first-lawful dependence (λ before at P. then-lawful (refuseIf-lawful _ _ (seven _ _)) (refuseIf-lawful _ _ (eight _ _))) [] _ _ in
-      then-lawful (limits-lawful c fifteen) (then-lawful clashes depends)
+  unfolding groupFault
+  group-lawful c six seven eight fifteen = then-lawful (limits-lawful c fifteen) (generators-lawful (generators c) six seven eight)
 
 pub canonical-refusal-numbers : CanonicalRefusalNumbers
 unfolding writeCanonical anyOf

@@ -1,0 +1,34 @@
+-- The numbers with which the syndrome call and the decode call refuse: those of their checks.
+use mathlib.Core.List.{List}
+use mathlib.Core.Option.{Option, none, some}
+use mathlib.Core.Path.{refl}
+use Prim.Native.Nat.{ℕ}
+use Rattle.pauli.specs.declared.Letter.{Letter}
+use Rattle.pauli.specs.Lists.{anyOf}
+use Rattle.sheet.specs.declared.Refusal.{Refusal}
+use Rattle.sheet.specs.Text.{untouched}
+use Rattle.sheet.proofs.Numbers.{IfRefused, law-of-refusal, refuseIf-lawful, then-lawful}
+use Rattle.sheet.proofs.Numbers.{limits-lawful, room-lawful, guarded-lawful}
+use Rattle.decoder.specs.declared.Decoded.{Decoded}
+use Rattle.decoder.specs.declared.SyndromeAnswer.{SyndromeAnswer}
+use Rattle.decoder.specs.Correction.{corrected, decode, decodedRefusal}
+use Rattle.decoder.specs.Statements.{DecoderRefusalNumbers}
+use Rattle.decoder.specs.Syndrome.{syndromeFault, syndromeRefusal, writeSyndrome}
+
+corrected-lawful : {Law : Refusal → Type 0} (found : Option (List Letter)) (buffer : List ℕ)
+    → IfRefused Law (decodedRefusal (corrected found buffer .answer))
+unfolding corrected decodedRefusal untouched
+corrected-lawful none buffer = IfRefused.unrefused
+corrected-lawful (some s) buffer = IfRefused.unrefused
+
+pub decoder-refusal-numbers : DecoderRefusalNumbers
+unfolding writeSyndrome syndromeRefusal syndromeFault decode decodedRefusal anyOf
+decoder-refusal-numbers = record {
+  syndromes = λ c P buffer. law-of-refusal
+      (guarded-lawful syndromeRefusal SyndromeAnswer.Refused (λ refusal. refl) buffer _
+      (then-lawful (limits-lawful c refl) (room-lawful (c .r) buffer refl)) IfRefused.unrefused);
+  corrections = λ c characters buffer. law-of-refusal
+      (guarded-lawful decodedRefusal Decoded.Refused (λ refusal. refl) buffer _
+      (then-lawful (limits-lawful c refl) (then-lawful (refuseIf-lawful _ _ refl) (room-lawful (c .n) buffer refl)))
+      (corrected-lawful _ buffer));
+}

@@ -1,0 +1,104 @@
+-- The refusals of a record's checks are brief: they name lines of the sheet, and errors on the code's qubits.
+use mathlib.Core.List.{List, [], _∷_, _++_}
+use mathlib.Core.Option.{Option, none}
+use mathlib.Core.Path.{_≡_, refl}
+use Prim.Native.Nat.{ℕ, _+_, _-_, _≤_}
+use native.Mathlib.Omega.{arith}
+use lib.Dec.{lit≤}
+use lib.ListN.{length, length-append}
+use Rattle.pauli.specs.declared.Pauli.{Pauli}
+use Rattle.pauli.specs.Lists.{bytes}
+use Rattle.sheet.specs.declared.Code.{Code}
+use Rattle.sheet.specs.declared.Refusal.{Refusal}
+use Rattle.sheet.specs.Record.{generators, generatorsAt, logicalCount, logicalsAt, claimAt}
+use Rattle.sheet.specs.Refusals.{values, _then_}
+use Rattle.sheet.specs.Statements.{Sized}
+use Rattle.sheet.proofs.Lengths.{length-line, length-letterText, length-generators, length-logicalXs, length-logicalZs}
+use Rattle.sheet.proofs.Limits.{Limits}
+use Rattle.sheet.proofs.Numbers.{IfRefused, refuseIf-lawful, then-lawful}
+use Rattle.stabilizer.specs.Checks.{firstFault, clash, dependence, generatorFault}
+use Rattle.admission.specs.Admission.{faultButDistance, codeFault}
+use Rattle.admission.specs.Distance.{claimedWeightFault, claimedDetectedFault, claimedInGroupFault, distanceFault}
+use Rattle.admission.specs.Distance.{logicalErrorUpTo, refutingPair}
+use Rattle.admission.specs.Logicals.{logicals, detected, mispaired, detectedFault, pairingFault}
+use Rattle.admission.proofs.Numbers.{mapped-lawful}
+use Rattle.reporting.specs.Report.{errorsText}
+
+-- A line that is named is one of the sheet's, at most 51, or one of those behind it, which have at most 4,096 bytes.
+-- The errors are two lines of at most 24 letters.
+pub record Brief (refusal : Refusal) : Type 0 where
+  pub number : values refusal .number ≤ 17
+  pub line : values refusal .line ≤ 5000
+  pub errors : length (errorsText (values refusal .errors)) ≤ 54
+
+pub brief : (refusal : Refusal) → values refusal .number ≤ 17 → values refusal .line ≤ 5000
+    → values refusal .errors ≡ none → Brief refusal
+unfolding errorsText
+brief refusal number line none-carried = record { number = number; line = line; errors = rw none-carried (lit≤ tt) }
+
+-- ---- the checks
+
+first-brief : (check : List Pauli → ℕ → Pauli → Option Refusal)
+    → ((before : List Pauli) (at : ℕ) (P : Pauli) → at ≤ 5000 → IfRefused Brief (check before at P))
+    → (before : List Pauli) (at : ℕ) (rows : List Pauli) → at + length rows ≤ 5000
+    → IfRefused Brief (firstFault check before at rows)
+unfolding firstFault
+first-brief check each before at [] few = IfRefused.unrefused
+first-brief check each before at (P ∷ rows) few =
+    then-lawful (each before at P (omega arith))
+    (first-brief check each (before ++ P ∷ []) (at + 1) rows (omega arith))
+
+module _ (c : Code) (sized : Sized c) (within : Limits c) where
+  generators-brief : IfRefused Brief (generatorFault (generators c))
+  unfolding generatorFault clash dependence generatorsAt
+  generators-brief =
+      let r = length-generators c sized within in
+      then-lawful
+      (first-brief clash (λ before at P h. refuseIf-lawful _ _ (brief _ (lit≤ tt) h refl)) [] 3 (generators c)
+      (omega arith))
+      (first-brief dependence (λ before at P h. then-lawful (refuseIf-lawful _ _ (brief _ (lit≤ tt) h refl))
+      (refuseIf-lawful _ _ (brief _ (lit≤ tt) h refl))) [] 3 (generators c) (omega arith))
+
+  logicals-few : logicalsAt c + length (logicals c) ≤ 5000
+  unfolding logicalsAt generatorsAt logicals
+  logicals-few =
+      rw length-append (omega (arith, length-logicalXs c sized within, length-logicalZs c sized within))
+
+  detected-brief : IfRefused Brief (detectedFault c)
+  unfolding detectedFault detected
+  detected-brief =
+      first-brief (detected c) (λ before at P h. refuseIf-lawful _ _ (brief _ (lit≤ tt) h refl)) [] _ _ logicals-few
+
+  pairing-brief : IfRefused Brief (pairingFault c)
+  unfolding pairingFault mispaired
+  pairing-brief =
+      first-brief (mispaired c) (λ before at P h. refuseIf-lawful _ _ (brief _ (lit≤ tt) h refl)) [] _ _ logicals-few
+
+  pub claim-few : claimAt c ≤ 60
+  unfolding claimAt logicalsAt generatorsAt logicalCount
+  claim-few = omega arith
+
+  claim-brief : IfRefused Brief (claimedWeightFault c then claimedDetectedFault c then claimedInGroupFault c)
+  unfolding claimedWeightFault claimedDetectedFault claimedInGroupFault
+  claim-brief =
+      let few : claimAt c ≤ 5000 = omega (arith, claim-few) in
+      then-lawful (refuseIf-lawful _ _ (brief _ (lit≤ tt) few refl))
+      (then-lawful (refuseIf-lawful _ _ (brief _ (lit≤ tt) few refl))
+      (refuseIf-lawful _ _ (brief _ (lit≤ tt) few refl)))
+
+  -- The errors of 14 have n letters each.
+  distance-brief : IfRefused Brief (distanceFault c)
+  unfolding distanceFault errorsText refutingPair bytes
+  distance-brief =
+      mapped-lawful _ (λ s. record {
+        number = lit≤ tt;
+        line = omega (arith, claim-few);
+        errors = simp (length-append, length-line, length-letterText) (omega arith);
+      }) (logicalErrorUpTo c (c .d - 1))
+
+  pub code-brief : IfRefused Brief (codeFault c)
+  unfolding codeFault faultButDistance
+  code-brief =
+      then-lawful
+      (then-lawful generators-brief (then-lawful detected-brief (then-lawful pairing-brief claim-brief)))
+      distance-brief

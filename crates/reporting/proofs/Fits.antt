@@ -1,0 +1,169 @@
+-- 32,768 bytes hold every report: 4,096 bytes have at most 1,024 `s=` lines, each with a line of at most 27 bytes.
+use mathlib.Core.Bool.{Bool, true, false}
+use mathlib.Core.List.{List, [], _∷_, _++_, flatMap}
+use mathlib.Core.Option.{Option, none, some}
+use mathlib.Core.Path.{_≡_, refl, ap}
+use Prim.Native.Nat.{ℕ, zero, suc, _+_, _-_, _*_, _/_, _%_, _≤_}
+use native.Mathlib.Nat.{mul-le-mul}
+use native.Mathlib.Omega.{arith}
+use lib.Dec.{lit≤, ltb}
+use lib.ListN.{length, length-append, length-map}
+use Rattle.pauli.specs.declared.Letter.{Letter}
+use Rattle.pauli.specs.Letters.{letterByte}
+use Rattle.pauli.specs.Lists.{bytes}
+use Rattle.sheet.specs.declared.Code.{Code}
+use Rattle.sheet.specs.declared.Refusal.{Refusal}
+use Rattle.sheet.specs.Reader.{Parsed}
+use Rattle.sheet.specs.Record.{generators, logicalCount, radius, claimAt}
+use Rattle.sheet.specs.Refusals.{values}
+use Rattle.sheet.specs.Statements.{ReadIsLawful}
+use Rattle.sheet.specs.Text.{digitsOf, decimal}
+use Rattle.sheet.proofs.Lengths.{length-line, length-rowLines, length-generators}
+use Rattle.sheet.proofs.Limits.{Limits, limits}
+use Rattle.sheet.proofs.Numbers.{IfRefused}
+use Rattle.sheet.proofs.Outcome.{Outcome, gets, stops}
+use Rattle.stabilizer.specs.Canonical.{canonicalGenerators, canonicalText}
+use Rattle.stabilizer.specs.Checks.{generatorFault}
+use Rattle.stabilizer.proofs.Faults.{nothing-then}
+use Rattle.stabilizer.proofs.Theorems.{canonical-generators-are-canonical}
+use Rattle.admission.specs.Admission.{faultButDistance, codeFault}
+use Rattle.admission.specs.Distance.{distanceFault}
+use Rattle.decoder.specs.Correction.{correction}
+use Rattle.decoder.proofs.Earliest.{correction-is-earliest}
+use Rattle.reporting.specs.Report.{refusalText, correctionValue, correctionLine, codeText}
+use Rattle.reporting.specs.Report.{reportOfSyndromes, reportOfCode, reportOfLines, reportText}
+use Rattle.reporting.specs.Statements.{ReportFits, syndromeLineText}
+use Rattle.reporting.proofs.Brief.{Brief, brief, code-brief, claim-few}
+use Rattle.reporting.proofs.BriefReading.{Read, read-brief}
+use Rattle.reporting.proofs.Syndromes.{HaveRBits, length-syndrome-lines, syndromes-outcome}
+
+-- ---- numbers and refusals
+
+digits-few : (k m : ℕ) → length (digitsOf k m) ≤ k
+unfolding digitsOf
+digits-few zero m = lit≤ tt
+digits-few (suc k) m = go (ltb m 10) (digits-few k (m / 10))
+  where
+    go : (small : Bool) → length (digitsOf k (m / 10)) ≤ k
+        → length {A = ℕ} (elim small [ true ↦ (48 + m) ∷ [] | false ↦ digitsOf k (m / 10) ++ (48 + m % 10) ∷ [] ])
+        ≤ suc k
+    go true fewer = omega arith
+    go false fewer = rw length-append (omega arith)
+
+decimal-few : (m : ℕ) → length (decimal m) ≤ m + 1
+unfolding decimal
+decimal-few m = omega (arith, digits-few (suc m) m)
+
+refusal-fits : (refusal : Refusal) → Brief refusal → length (refusalText refusal) ≤ 32768
+unfolding refusalText bytes
+refusal-fits refusal h =
+    simp (length-append, length-line)
+    (omega (
+      arith,
+      decimal-few (values refusal .number),
+      decimal-few (values refusal .line),
+      h .number,
+      h .line,
+      h .errors,
+    ))
+
+-- ---- the length of a `c=` line
+
+pub length-correction : (c : Code) (bits : List Bool) (s : List Letter) → correction c bits ≡ some s
+    → length (correctionLine c bits) ≡ c .n + 3
+unfolding correctionLine correctionValue bytes
+length-correction c bits s e =
+    rw (length-line, e) (omega (arith, length-map s letterByte, correction-is-earliest .found c bits s e .0 .letters))
+
+pub length-no-correction : (c : Code) (bits : List Bool) → correction c bits ≡ none
+    → length (correctionLine c bits) ≡ 7
+unfolding correctionLine correctionValue bytes
+length-no-correction c bits e = rw (length-line, e)
+
+-- ---- a report that is no refusal
+
+module _ (c : Code) (lawful : ReadIsLawful c) (faultless : codeFault c ≡ none) where
+  within : Limits c
+  within = limits c (lawful .limits)
+
+  generators-faultless : generatorFault (generators c) ≡ none
+  unfolding codeFault faultButDistance
+  generators-faultless =
+      nothing-then (generatorFault (generators c)) _ (nothing-then _ (distanceFault c) faultless .0) .0
+
+  canonical-few : length (canonicalText c) ≤ 644
+  unfolding canonicalText bytes generators
+  canonical-few =
+      let hs = canonicalGenerators (c .n) (generators c) in
+      let count =
+      canonical-generators-are-canonical (c .n) (generators c) (within .generatorRows .used) generators-faultless .1 in
+      let r = length-generators c (lawful .sized) within in
+      let few : (length hs ≤ 23) × (c .n ≤ 24) = omega (arith, count, r, within .qubits, within .generatorCount) in
+      let rows : length hs * (c .n + 4) ≤ 23 * 28 = mul-le-mul {n₂ = 23} {m₂ = 28} (few .0) (omega arith) in
+      rw (length-rowLines "h=" (c .n) hs refl) rows
+
+  pub code-few : length (codeText c) ≤ 720
+  unfolding codeText bytes logicalCount radius
+  code-few =
+      simp (length-append, length-line)
+      (omega (
+        arith,
+        within .qubits,
+        within .distance,
+        decimal-few (c .n),
+        decimal-few (c .n - c .r),
+        decimal-few (c .d),
+        decimal-few ((c .d - 1) / 2),
+        canonical-few,
+      ))
+
+  pub correction-few : (bits : List Bool) → length (correctionLine c bits) ≤ 27
+  correction-few bits = go (correction c bits) refl
+    where
+      go : (o : Option (List Letter)) → correction c bits ≡ o → length (correctionLine c bits) ≤ 27
+      go none e = omega (arith, length-no-correction c bits e)
+      go (some s) e = omega (arith, length-correction c bits s e, within .qubits)
+
+  pub corrections-few : (syndromes : List (List Bool))
+      → length (flatMap (correctionLine c) syndromes) ≤ 27 * length syndromes
+  unfolding flatMap
+  corrections-few [] = lit≤ tt
+  corrections-few (bits ∷ more) = rw length-append (omega (arith, correction-few bits, corrections-few more))
+
+  syndromes-fit : (rest : List ℕ) {p : Parsed (List (List Bool))} → length rest ≤ 4096
+      → Outcome (λ syndromes end. HaveRBits c syndromes × (rest ≡ flatMap syndromeLineText syndromes)) Brief p
+      → length (reportOfSyndromes c p) ≤ 32768
+  unfolding reportOfSyndromes
+  syndromes-fit rest few (gets {a = syndromes} h) =
+      rw length-append
+      (omega (
+        arith,
+        code-few,
+        corrections-few syndromes,
+        length-syndrome-lines c syndromes (within .generatorCount .0) (h .0),
+        ap length (h .1),
+      ))
+  syndromes-fit rest few (stops {refusal} h) = refusal-fits refusal h
+
+-- ---- every report
+
+code-fits : (c : Code) (rest : List ℕ) → ReadIsLawful c → length rest ≤ 4096 → (fault : Option Refusal)
+    → codeFault c ≡ fault → IfRefused Brief fault → length (reportOfCode c rest fault) ≤ 32768
+unfolding reportOfCode
+code-fits c rest lawful few none faultless h =
+    let lines = claim-few c (lawful .sized) (limits c (lawful .limits)) in
+    syndromes-fit c lawful faultless rest few
+    (syndromes-outcome c (length rest) (claimAt c + 1) 5000 rest (omega arith)
+    (λ m last. brief (Refusal.Syndrome m) (lit≤ tt) last refl))
+code-fits c rest lawful few (some refusal) fault (IfRefused.refused h) = refusal-fits refusal h
+
+lines-fit : {s : List ℕ} {p : Parsed Code} → Outcome (Read s) Brief p → length (reportOfLines p) ≤ 32768
+unfolding reportOfLines
+lines-fit (gets {a = c} {rest} h) =
+    code-fits c rest (h .lawful) (h .few) (codeFault c) refl
+    (code-brief c (h .lawful .sized) (limits c (h .lawful .limits)))
+lines-fit (stops {refusal} h) = refusal-fits refusal h
+
+pub report-fits : ReportFits
+unfolding reportText
+report-fits s = lines-fit (read-brief s)
