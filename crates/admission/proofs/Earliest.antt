@@ -15,7 +15,7 @@ use Rattle.pauli.specs.Order.{Earlier, stringsUpTo}
 use Rattle.pauli.specs.Product.{commutes}
 use Rattle.pauli.proofs.First.{first-is-earliest, first-is-missing}
 use Rattle.pauli.proofs.Letters.{xMask-lt, zMask-lt}
-use Rattle.pauli.proofs.Order.{stringsUpTo-listed}
+use Rattle.pauli.proofs.EarlierOrder.{stringsUpTo-listed}
 use Rattle.sheet.specs.declared.Code.{Code}
 use Rattle.sheet.specs.Record.{generators, onQubits}
 use Rattle.sheet.proofs.Limits.{both}

@@ -13,7 +13,7 @@ use Rattle.sheet.specs.Record.{emptyCode}
 use Rattle.admission.specs.declared.Admission.{Admission}
 use Rattle.admission.specs.Admission.{readSheet}
 use Rattle.admission.specs.Distance.{refutingPair}
-use Rattle.admission.specs.Opened.{opened}
+use Rattle.admission.specs.Definitions.{definitions}
 
 record Entry : Type 0 where
   sheet : String
@@ -48,23 +48,23 @@ others =
     ∷ []
 
 others-right : (e : Entry) → List·Memᴰ e others → readSheet (bytes (e .sheet)) .answer ≡ e .answer
-unfolding others opened
+unfolding others definitions
 others-right = each (λ e. readSheet (bytes (e .sheet)) .answer) (λ e. e .answer) others refl
 
 -- Beside a refusal stands the empty record.
 refused-record : readSheet (bytes sheetC) .code ≡ emptyCode
-unfolding opened
+unfolding definitions
 refused-record = refl
 
 -- Six letters other than I: the first three are E, and the others F. Of five, three are E.
 split-errors :
     refutingPair 7 (X ∷ I ∷ Z ∷ Y ∷ Z ∷ X ∷ Y ∷ [])
     ≡ record { n = 7; e = ofLetters (X ∷ I ∷ Z ∷ Y ∷ I ∷ I ∷ I ∷ []); f = ofLetters (I ∷ I ∷ I ∷ I ∷ Z ∷ X ∷ Y ∷ []) }
-unfolding opened
+unfolding definitions
 split-errors = refl
 
 split-five :
     refutingPair 5 (Y ∷ Y ∷ Z ∷ X ∷ Z ∷ [])
     ≡ record { n = 5; e = ofLetters (Y ∷ Y ∷ Z ∷ I ∷ I ∷ []); f = ofLetters (I ∷ I ∷ I ∷ X ∷ Z ∷ []) }
-unfolding opened
+unfolding definitions
 split-five = refl

@@ -6,8 +6,8 @@ use Rattle.pauli.specs.Lists.{bytes}
 use Rattle.pauli.proofs.Table.{each}
 use Rattle.sheet.specs.Starred.{Entry, starred}
 use Rattle.admission.specs.Admission.{admissionRefusal, readSheet}
-use Rattle.admission.specs.Opened.{opened}
+use Rattle.admission.specs.Definitions.{definitions}
 
 pub starred-answers : (e : Entry) → List·Memᴰ e starred → admissionRefusal (readSheet (bytes (e .sheet)) .answer) ≡ e .refusal
-unfolding opened
+unfolding definitions
 starred-answers = each (λ e. admissionRefusal (readSheet (bytes (e .sheet)) .answer)) (λ e. e .refusal) starred refl

@@ -1,5 +1,5 @@
 pub mod Logicals
 pub mod Distance
 pub mod Admission
-pub mod Opened
+pub mod Definitions
 pub mod Statements

@@ -9,7 +9,7 @@ use Rattle.pauli.specs.Letters.{ofLetters}
 use Rattle.pauli.specs.Order.{Earlier, stringsUpTo}
 use Rattle.pauli.specs.Syndrome.{syndrome}
 use Rattle.pauli.proofs.First.{first-is-earliest, first-is-missing}
-use Rattle.pauli.proofs.Order.{stringsUpTo-listed}
+use Rattle.pauli.proofs.EarlierOrder.{stringsUpTo-listed}
 use Rattle.sheet.specs.declared.Code.{Code}
 use Rattle.sheet.specs.Record.{generators, radius}
 use Rattle.decoder.specs.Correction.{hasSyndrome, correction}

@@ -14,7 +14,7 @@ use Rattle.admission.specs.Admission.{readSheet}
 use Rattle.decoder.specs.declared.Decoded.{Decoded}
 use Rattle.decoder.specs.declared.SyndromeAnswer.{SyndromeAnswer}
 use Rattle.decoder.specs.Correction.{decode}
-use Rattle.decoder.specs.Opened.{opened}
+use Rattle.decoder.specs.Definitions.{definitions}
 use Rattle.decoder.specs.Syndrome.{writeSyndrome}
 
 codeA : Code
@@ -27,43 +27,43 @@ codeK = readSheet (bytes sheetK) .code
 
 -- X on qubit 1 of A anticommutes with its last generator alone
 syndrome-a : writeSyndrome codeA (ofLetters (X ∷ I ∷ I ∷ I ∷ I ∷ [])) (bytes "abcdef") ≡ record { answer = SyndromeAnswer.Given; buffer = bytes "0001ef" }
-unfolding codeA opened
+unfolding codeA definitions
 syndrome-a = refl
 
 -- the phase, and mask bits above qubit n, change nothing
 syndrome-above : writeSyndrome codeA (record { p = 7; a = 2 ^ 31 + 1; b = 2 ^ 5 }) (bytes "abcd") ≡ record { answer = SyndromeAnswer.Given; buffer = bytes "0001" }
-unfolding codeA opened
+unfolding codeA definitions
 syndrome-above = refl
 
 syndrome-short : writeSyndrome codeA (ofLetters []) (bytes "abc") ≡ untouched (SyndromeAnswer.Refused Refusal.ShortBuffer) (bytes "abc")
-unfolding codeA opened
+unfolding codeA definitions
 syndrome-short = refl
 
 syndrome-outside : writeSyndrome emptyCode (ofLetters []) (bytes "abc") ≡ untouched (SyndromeAnswer.Refused Refusal.RecordLimits) (bytes "abc")
-unfolding opened
+unfolding definitions
 syndrome-outside = refl
 
 -- ---- corrections
 
 decode-a : decode codeA (bytes "0001") (bytes "abcdefg") ≡ record { answer = Decoded.Correction; buffer = bytes "XIIIIfg" }
-unfolding codeA opened
+unfolding codeA definitions
 decode-a = refl
 
 decode-none : decode codeK (bytes "1") (bytes "abc") ≡ untouched Decoded.None (bytes "abc")
-unfolding codeK opened
+unfolding codeK definitions
 decode-none = refl
 
 -- 15 before 16 before 17, and 17 even where the answer would be none
 decode-outside : decode emptyCode (bytes "x") [] ≡ untouched (Decoded.Refused Refusal.RecordLimits) []
-unfolding opened
+unfolding definitions
 decode-outside = refl
 
 decode-off-form : decode codeK (bytes "01") [] ≡ untouched (Decoded.Refused (Refusal.Syndrome 0)) []
-unfolding codeK opened
+unfolding codeK definitions
 decode-off-form = refl
 
 decode-short : decode codeK (bytes "1") (bytes "a") ≡ untouched (Decoded.Refused Refusal.ShortBuffer) (bytes "a")
-unfolding codeK opened
+unfolding codeK definitions
 decode-short = refl
 
 -- "Nine qubits ..: the errors Z on 1, 2 and 3 share a syndrome; the correction is IIZIIIIII."
@@ -73,9 +73,9 @@ codeNine = readSheet (bytes nineQubits) .code
 share-a-syndrome :
     map (λ e. writeSyndrome codeNine (ofLetters e) (bytes "abcdefgh") .buffer) ((Z ∷ []) ∷ (I ∷ Z ∷ []) ∷ (I ∷ I ∷ Z ∷ []) ∷ [])
     ≡ bytes "00000010" ∷ bytes "00000010" ∷ bytes "00000010" ∷ []
-unfolding codeNine opened
+unfolding codeNine definitions
 share-a-syndrome = refl
 
 decode-nine : decode codeNine (bytes "00000010") (bytes "abcdefghi") .buffer ≡ bytes "IIZIIIIII"
-unfolding codeNine opened
+unfolding codeNine definitions
 decode-nine = refl

@@ -1,4 +1,4 @@
 pub mod Syndrome
 pub mod Correction
-pub mod Opened
+pub mod Definitions
 pub mod Statements

@@ -1,10 +1,10 @@
 pub mod Clearing
-pub mod Grown
-pub mod Left
-pub mod Order
-pub mod Room
+pub mod GatheredRows
+pub mod RowKinds
+pub mod CheckOrder
+pub mod ArrayLength
 pub mod Rows
 pub mod Signs
 pub mod Steps
-pub mod Taken
+pub mod FirstRows
 pub mod Walk

@@ -12,7 +12,7 @@ use Rattle.stabilizer.specs.Canonical.{cleared, reduced}
 use Rattle.elimination.specs.declared.ReducedRows.{ReducedRows}
 use Rattle.elimination.specs.Answers.{rowsIn, reducedOf}
 use Rattle.elimination.specs.Step.{IsReducedOf}
-use Rattle.elimination.proofs.Taken.{taken-at, taken-end}
+use Rattle.elimination.proofs.FirstRows.{taken-at, taken-end}
 
 abbrev pub value : ℕ → ℕ → List Pauli → ReducedRows
 value n count rows = record { n = n; count = count; rows = rows }

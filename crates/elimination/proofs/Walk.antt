@@ -13,7 +13,7 @@ use Rattle.pauli.specs.Product.{identity}
 use Rattle.sheet.specs.declared.Refusal.{Refusal}
 use Rattle.sheet.specs.Refusals.{_then_}
 use Rattle.stabilizer.specs.Checks.{firstFault}
-use Rattle.elimination.proofs.Taken.{taken-at, taken-end}
+use Rattle.elimination.proofs.FirstRows.{taken-at, taken-end}
 
 -- One row more.
 pub taken-more : (rows : List Pauli) (place : ℕ) → place < length rows → take place rows ++ getD rows place identity ∷ [] ≡ take (place + 1) rows

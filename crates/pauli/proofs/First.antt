@@ -10,7 +10,7 @@ use Rattle.pauli.specs.declared.Letter.{Letter}
 use Rattle.pauli.specs.Lists.{firstOf}
 use Rattle.pauli.specs.Order.{Earlier}
 use Rattle.pauli.specs.Statements.{ListsInOrder}
-use Rattle.pauli.proofs.Order.{earlier-prop, strings-discrete}
+use Rattle.pauli.proofs.EarlierOrder.{earlier-prop, strings-discrete}
 
 -- The earliest string that meets the condition and passes the test.
 pub record Earliest (Condition : List Letter → Type 0) (test : List Letter → Bool) (s : List Letter) : Type 0 where

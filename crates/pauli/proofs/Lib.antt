@@ -5,7 +5,7 @@ pub mod Product
 pub mod Syndrome
 pub mod Letters
 pub mod Rows
-pub mod Order
+pub mod EarlierOrder
 pub mod First
 pub mod Table
 pub mod Examples

@@ -4,5 +4,5 @@ pub mod Product
 pub mod Syndrome
 pub mod Letters
 pub mod Order
-pub mod Opened
+pub mod Definitions
 pub mod Statements

@@ -17,7 +17,7 @@ use Rattle.sheet.specs.Edges.{nineQubits, eightQubits, fourQubits, sheetC, shee
 use Rattle.sheet.specs.Record.{codeOf}
 use Rattle.sheet.specs.Text.{lineFeed, untouched}
 use Rattle.sheet.specs.Writer.{sheetText}
-use Rattle.reporting.specs.Opened.{opened}
+use Rattle.reporting.specs.Definitions.{definitions}
 use Rattle.reporting.specs.Report.{reportText, writeReport}
 
 record Entry : Type 0 where
@@ -61,12 +61,12 @@ others =
     ∷ []
 
 others-right : (e : Entry) → List·Memᴰ e others → reportText (bytes (e .input)) ≡ bytes (e .output)
-unfolding others opened
+unfolding others definitions
 others-right = each (λ e. reportText (bytes (e .input))) (λ e. bytes (e .output)) others refl
 
 -- 1 comes before the sheet is looked at, and counts the `s=` lines too.
 too-long : reportText (bytes sheetK ++ replicate 4066 lineFeed) ≡ bytes "r=1\nat=0\n"
-unfolding opened
+unfolding definitions
 too-long = refl
 
 -- ---- the largest n, with one generator
@@ -87,15 +87,15 @@ code24 =
 report24 :
     reportText (sheetText code24 ++ bytes "s=0\ns=1\n")
     ≡ bytes "n=24\nk=23\nd=1\nt=0\nh=-ZZZZZZZZZZZZZZZZZZZZZZZZ\nc=IIIIIIIIIIIIIIIIIIIIIIII\nc=none\n"
-unfolding code24 letterAtOther range opened
+unfolding code24 letterAtOther range definitions
 report24 = refl
 
 -- ---- the call
 
 report-written : writeReport (bytes "n=1\n") (bytes "abcdefghijkl") ≡ record { answer = Written.Count 9; buffer = bytes "r=3\nat=1\njkl" }
-unfolding opened
+unfolding definitions
 report-written = refl
 
 report-short : writeReport (bytes "n=1\n") (bytes "abcdefgh") ≡ untouched (Written.Refused Refusal.ShortBuffer) (bytes "abcdefgh")
-unfolding opened
+unfolding definitions
 report-short = refl

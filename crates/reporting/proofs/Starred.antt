@@ -8,7 +8,7 @@ use Rattle.pauli.proofs.Table.{each}
 use Rattle.sheet.specs.Starred.{Entry, starred}
 use Rattle.admission.specs.Admission.{admissionRefusal, readSheet}
 use Rattle.admission.proofs.Starred.{starred-answers}
-use Rattle.reporting.specs.Opened.{opened}
+use Rattle.reporting.specs.Definitions.{definitions}
 use Rattle.reporting.specs.Report.{reportText}
 
 pub record Right (e : Entry) : Type 0 where
@@ -16,7 +16,7 @@ pub record Right (e : Entry) : Type 0 where
   pub report : reportText (bytes (e .sheet ++ e .behind)) ≡ bytes (e .report)
 
 starred-reports : (e : Entry) → List·Memᴰ e starred → reportText (bytes (e .sheet ++ e .behind)) ≡ bytes (e .report)
-unfolding opened
+unfolding definitions
 starred-reports = each (λ e. reportText (bytes (e .sheet ++ e .behind))) (λ e. bytes (e .report)) starred refl
 
 -- The theorem: every starred sheet has the answer and the report that 01 gives it.

@@ -1,3 +1,3 @@
 pub mod Report
-pub mod Opened
+pub mod Definitions
 pub mod Statements

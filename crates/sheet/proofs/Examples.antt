@@ -19,7 +19,7 @@ use Rattle.sheet.specs.declared.Lines.{Lines}
 use Rattle.sheet.specs.declared.Refusal.{Refusal}
 use Rattle.sheet.specs.declared.Written.{Written}
 use Rattle.sheet.specs.Edges.{sheetA}
-use Rattle.sheet.specs.Opened.{opened}
+use Rattle.sheet.specs.Definitions.{definitions}
 use Rattle.sheet.specs.Reader.{Parsed, got, stop, readForm, linesReading, formReading}
 use Rattle.sheet.specs.Record.{codeOf, emptyCode, filled, between, withinLimits, logicalCount, radius, claimAt}
 use Rattle.sheet.specs.Refusals.{values}
@@ -42,21 +42,21 @@ cases =
 numbers :
     map (λ refusal. values refusal .number) cases
     ≡ 1 ∷ 2 ∷ 3 ∷ 4 ∷ 5 ∷ 6 ∷ 7 ∷ 8 ∷ 9 ∷ 10 ∷ 11 ∷ 12 ∷ 13 ∷ 14 ∷ 15 ∷ 16 ∷ 17 ∷ []
-unfolding cases opened
+unfolding cases definitions
 numbers = refl
 
 -- 1, 15 and 17 name no line.
 lines-named :
     map (λ refusal. values refusal .line) cases
     ≡ 0 ∷ 8 ∷ 8 ∷ 8 ∷ 8 ∷ 8 ∷ 8 ∷ 8 ∷ 8 ∷ 8 ∷ 8 ∷ 8 ∷ 8 ∷ 8 ∷ 0 ∷ 8 ∷ 0 ∷ []
-unfolding cases opened
+unfolding cases definitions
 lines-named = refl
 
 -- ---- numbers in texts
 
 decimals :
     map decimal (0 ∷ 9 ∷ 10 ∷ 11 ∷ 100 ∷ 1024 ∷ []) ≡ map bytes ("0" ∷ "9" ∷ "10" ∷ "11" ∷ "100" ∷ "1024" ∷ [])
-unfolding opened
+unfolding definitions
 decimals = refl
 
 -- ---- refusals of the form
@@ -90,16 +90,16 @@ offForm =
     ∷ []
 
 off-form-refused : (e : Entry) → List·Memᴰ e offForm → readForm (bytes (e .input)) ≡ stop (e .refusal)
-unfolding offForm opened
+unfolding offForm definitions
 off-form-refused = each (λ e. readForm (bytes (e .input))) (λ e. stop (e .refusal)) offForm refl
 
 -- 1 comes first, and at 4,097 bytes
 too-long : readForm (replicate 4097 lineFeed) ≡ stop Refusal.TooLong
-unfolding opened
+unfolding definitions
 too-long = refl
 
 not-too-long : readForm (replicate 4096 lineFeed) ≡ stop (Refusal.Form 1)
-unfolding opened
+unfolding definitions
 not-too-long = refl
 
 -- ---- A cut off after each of its bytes but the last
@@ -122,11 +122,11 @@ upTo zero = zero ∷ []
 upTo (suc m) = suc m ∷ upTo m
 
 whole : length (bytes sheetA) ≡ 70
-unfolding opened
+unfolding definitions
 whole = refl
 
 every-cut-refused : allOf cutRefused (upTo 69) ≡ true
-unfolding cutRefused feeds refusedAs upTo opened
+unfolding cutRefused feeds refusedAs upTo definitions
 every-cut-refused = refl
 
 -- ---- sheets that return
@@ -140,11 +140,11 @@ codeA =
     (ofLetters (I ∷ Y ∷ Y ∷ I ∷ X ∷ []))
 
 read-a : readForm (bytes sheetA) ≡ got codeA []
-unfolding codeA opened
+unfolding codeA definitions
 read-a = refl
 
 written-a : sheetText codeA ≡ bytes sheetA
-unfolding codeA opened
+unfolding codeA definitions
 written-a = refl
 
 -- The longest sheet: n = 24, r = 1.
@@ -154,34 +154,34 @@ code24 =
     (replicate 23 (signedRow Minus (replicate 24 Z))) (ofLetters (replicate 24 X))
 
 pub longest : length (sheetText code24) ≡ 1352
-unfolding code24 opened
+unfolding code24 definitions
 longest = refl
 
 pub longest-returns : readForm (sheetText code24) ≡ got code24 []
-unfolding code24 opened
+unfolding code24 definitions
 longest-returns = refl
 
 longest-within-limits : withinLimits code24 ≡ true
-unfolding code24 opened
+unfolding code24 definitions
 longest-within-limits = refl
 
 -- k, t and the line of w
 numbers-a : (logicalCount codeA ≡ 1) × (radius codeA ≡ 1) × (claimAt codeA ≡ 9)
-unfolding codeA opened
+unfolding codeA definitions
 numbers-a = (refl, refl, refl)
 
 numbers-24 : (logicalCount code24 ≡ 23) × (radius code24 ≡ 3) × (claimAt code24 ≡ 50)
-unfolding code24 opened
+unfolding code24 definitions
 numbers-24 = (refl, refl, refl)
 
 -- The empty record has "all numbers 0".
 empty-numbers : (emptyCode .n ≡ 0) × (emptyCode .r ≡ 0) × (emptyCode .d ≡ 0)
-unfolding opened
+unfolding definitions
 empty-numbers = (refl, refl, refl)
 
 -- The arrays have their room, in a record that was read and in the empty one.
 rooms : Sized codeA × Sized emptyCode
-unfolding codeA opened
+unfolding codeA definitions
 rooms = (record { roomG = refl; roomX = refl; roomZ = refl }, record { roomG = refl; roomX = refl; roomZ = refl })
 
 -- ---- the limits of a record
@@ -211,7 +211,7 @@ codeK n d g x z w = codeOf n d (g ∷ []) (x ∷ []) (z ∷ []) w
 
 -- t, for each d
 radii : map (λ d. radius (codeK 2 d zz xx zi zi)) (1 ∷ 2 ∷ 3 ∷ 4 ∷ 5 ∷ 6 ∷ 7 ∷ []) ≡ 0 ∷ 0 ∷ 1 ∷ 1 ∷ 2 ∷ 2 ∷ 3 ∷ []
-unfolding codeK opened
+unfolding codeK definitions
 radii = refl
 
 inside : List Code
@@ -235,7 +235,7 @@ outside =
     ∷ emptyCode ∷ []
 
 limits : (allOf withinLimits inside ≡ true) × (anyOf withinLimits outside ≡ false)
-unfolding inside outside codeK zz xx zi above-a above-b turned opened
+unfolding inside outside codeK zz xx zi above-a above-b turned definitions
 limits = (refl, refl)
 
 -- ---- the writer's call
@@ -244,11 +244,11 @@ limits = (refl, refl)
 writer-refuses :
     (writeSheet codeA (replicate 69 0) ≡ untouched (Written.Refused Refusal.ShortBuffer) (replicate 69 0))
     × (writeSheet emptyCode [] ≡ untouched (Written.Refused Refusal.RecordLimits) [])
-unfolding codeA opened
+unfolding codeA definitions
 writer-refuses = (refl, refl)
 
 writer-writes : writeSheet codeA (replicate 72 7) ≡ record { answer = Written.Count 70; buffer = bytes sheetA ++ 7 ∷ 7 ∷ [] }
-unfolding codeA opened
+unfolding codeA definitions
 writer-writes = refl
 
 -- ---- the readings
@@ -257,5 +257,5 @@ readings :
     (linesReading (bytes (sheetA ⧺ "s=0001\n")) ≡ record { answer = Lines.Read 70; next = 10; code = codeA })
     × (formReading (bytes (sheetA ⧺ "s=0001\n"))
     ≡ record { answer = Lines.Refused (Refusal.Form 10); next = 0; code = emptyCode })
-unfolding codeA opened
+unfolding codeA definitions
 readings = (refl, refl)

@@ -9,7 +9,7 @@ pub mod Consumed
 pub mod ReadBack
 pub mod RowLimits
 pub mod Parts
-pub mod Rooms
+pub mod ArrayLengths
 pub mod WrittenRead
 pub mod Longest
 pub mod Numbers

@@ -5,5 +5,5 @@ pub mod Reader
 pub mod Writer
 pub mod Edges
 pub mod Starred
-pub mod Opened
+pub mod Definitions
 pub mod Statements

@@ -21,7 +21,7 @@ use Rattle.sheet.specs.Text.{untouched}
 use Rattle.stabilizer.specs.Canonical.{reducesToIdentity, canonicalGenerators, writeCanonical}
 use Rattle.stabilizer.specs.Checks.{minusIdentity, dependence, generatorFault, groupFault}
 use Rattle.stabilizer.specs.Group.{inGroupUpToPhase, memberSign}
-use Rattle.stabilizer.specs.Opened.{opened}
+use Rattle.stabilizer.specs.Definitions.{definitions}
 
 -- A row as it is written; what is no row becomes -I.
 row : String → Pauli
@@ -35,35 +35,35 @@ rows texts = map row texts
 
 -- "n=3 with +XII, +ZII: 6, line 4"
 clash : generatorFault (rows ("+XII" ∷ "+ZII" ∷ [])) ≡ some (Refusal.GeneratorsAnticommute 4 Family.Generator)
-unfolding rows opened
+unfolding rows definitions
 clash = refl
 
 -- sheets I and J: XX times ZZ is -YY
 minus : generatorFault (rows ("+XXII" ∷ "+ZZII" ∷ "+YYII" ∷ [])) ≡ some (Refusal.MinusIdentity 5 Family.Generator)
-unfolding rows opened
+unfolding rows definitions
 minus = refl
 
 dependent : generatorFault (rows ("+XXII" ∷ "+ZZII" ∷ "-YYII" ∷ [])) ≡ some (Refusal.DependentGenerator 5 Family.Generator)
-unfolding rows opened
+unfolding rows definitions
 dependent = refl
 
 -- a row +I is a product of no row, and -I is 7
 plus-identity : generatorFault (rows ("+ZZ" ∷ "+II" ∷ [])) ≡ some (Refusal.DependentGenerator 4 Family.Generator)
-unfolding rows opened
+unfolding rows definitions
 plus-identity = refl
 
 minus-identity : generatorFault (rows ("-II" ∷ "+ZZ" ∷ [])) ≡ some (Refusal.MinusIdentity 3 Family.Generator)
-unfolding rows opened
+unfolding rows definitions
 minus-identity = refl
 
 -- 7 comes before 8: behind -I a row that is -I is both
 minus-first : dependence (rows ("-II" ∷ [])) 4 (row "-II") ≡ some (Refusal.MinusIdentity 4 Family.Generator)
-unfolding rows row opened
+unfolding rows row definitions
 minus-first = refl
 
 -- 6 over all rows comes before 7 and 8
 clash-first : generatorFault (rows ("+ZZI" ∷ "-ZZI" ∷ "+XII" ∷ [])) ≡ some (Refusal.GeneratorsAnticommute 5 Family.Generator)
-unfolding rows opened
+unfolding rows definitions
 clash-first = refl
 
 -- "Document 000 table 3.3, all signs +: M1 to M5 pass 6 to 8."
@@ -71,63 +71,63 @@ rowsOf : String → List Pauli
 rowsOf sheet = generators (linesReading (bytes sheet) .code)
 
 eight-qubits-pass : generatorFault (rowsOf eightQubits) ≡ none
-unfolding rowsOf opened
+unfolding rowsOf definitions
 eight-qubits-pass = refl
 
 -- ---- members
 
 -- the product of A's first two rows, phase aside; and a logical operator
 member : inGroupUpToPhase (rowsOf sheetA) (row "-XYIYX") ≡ true
-unfolding rowsOf row opened
+unfolding rowsOf row definitions
 member = refl
 
 not-member : inGroupUpToPhase (rowsOf sheetA) (row "+XXXXX") ≡ false
-unfolding rowsOf row opened
+unfolding rowsOf row definitions
 not-member = refl
 
 -- XX times ZZ is -YY, and the sign asked for does not count
 member-signs : map (memberSign (rows ("+XX" ∷ "+ZZ" ∷ []))) (rows ("-ZZ" ∷ "+YY" ∷ "+XI" ∷ [])) ≡ some Plus ∷ some Minus ∷ none ∷ []
-unfolding rows opened
+unfolding rows definitions
 member-signs = refl
 
 -- where both signs are a member's, as of rows that 7 refuses, + is taken
 both-signs : memberSign (rows ("-II" ∷ [])) (row "+II") ≡ some Plus
-unfolding rows row opened
+unfolding rows row definitions
 both-signs = refl
 
 -- ---- canonical generators
 
 -- of YY these leave -I, which is I, phase aside
 reduces-to-identity : map (reducesToIdentity 2 (rows ("+XX" ∷ "+ZZ" ∷ []))) (rows ("+YY" ∷ "-YY" ∷ "+XI" ∷ [])) ≡ true ∷ true ∷ false ∷ []
-unfolding rows opened
+unfolding rows definitions
 reduces-to-identity = refl
 
 -- those of A, from its rows as they stand and in another order
 canonical-a : canonicalGenerators 5 (rowsOf sheetA) ≡ rows ("+YZIZY" ∷ "+IXZZX" ∷ "+ZZXIX" ∷ "+ZIZYY" ∷ [])
-unfolding rowsOf rows opened
+unfolding rowsOf rows definitions
 canonical-a = refl
 
 canonical-other-order : canonicalGenerators 5 (rows ("+ZXIXZ" ∷ "+IXZZX" ∷ "+XZZXI" ∷ "+XIXZZ" ∷ [])) ≡ canonicalGenerators 5 (rowsOf sheetA)
-unfolding rowsOf rows opened
+unfolding rowsOf rows definitions
 canonical-other-order = refl
 
 -- signs follow the product rule
 canonical-sign : canonicalGenerators 2 (rows ("+XX" ∷ "+YY" ∷ [])) ≡ rows ("+XX" ∷ "-ZZ" ∷ [])
-unfolding rows opened
+unfolding rows definitions
 canonical-sign = refl
 
 -- a row of Z alone has its first one among b1..bn
 canonical-z : canonicalGenerators 3 (rows ("+ZZI" ∷ "-IZZ" ∷ [])) ≡ rows ("-ZIZ" ∷ "-IZZ" ∷ [])
-unfolding rows opened
+unfolding rows definitions
 canonical-z = refl
 
 -- a phase is read modulo 4
 canonical-phase : canonicalGenerators 2 (record { p = 4; a = 0; b = 3 } ∷ []) ≡ rows ("+ZZ" ∷ [])
-unfolding rows opened
+unfolding rows definitions
 canonical-phase = refl
 
 canonical-eight : canonicalGenerators 8 (rowsOf eightQubits) ≡ rows ("+XZIYIYXZ" ∷ "+IXZYIXZY" ∷ "-IZXYZIYX" ∷ "-IIZZYYXX" ∷ "+ZZZZZZZZ" ∷ [])
-unfolding rowsOf rows opened
+unfolding rowsOf rows definitions
 canonical-eight = refl
 
 -- ---- the call, on the record of K with another generator
@@ -138,7 +138,7 @@ record2 generators = codeOf 2 1 (rows generators) (rows ("+XX" ∷ [])) (rows ("
 
 -- six bytes, and the rest of the buffer stays
 written-six : writeCanonical (record2 ("-ZZ" ∷ [])) (bytes "abcdefgh") ≡ record { answer = Written.Count 6; buffer = bytes "h=-ZZ\ngh" }
-unfolding record2 opened
+unfolding record2 definitions
 written-six = refl
 
 -- three qubits, two generators, and a distance
@@ -149,29 +149,29 @@ record3 d generators = codeOf 3 d (rows generators) (rows ("+IXI" ∷ [])) (rows
 written-rows :
     writeCanonical (record3 1 ("+XIX" ∷ "+IIX" ∷ [])) (bytes "abcdefghijklmn")
     ≡ record { answer = Written.Count 14; buffer = bytes "h=+XII\nh=+IIX\n" }
-unfolding record3 opened
+unfolding record3 definitions
 written-rows = refl
 
 -- 15 comes before 6
 clash-of-record : groupFault (record3 1 ("+XII" ∷ "+ZII" ∷ [])) ≡ some (Refusal.GeneratorsAnticommute 4 Family.Generator)
-unfolding record3 opened
+unfolding record3 definitions
 clash-of-record = refl
 
 clash-outside : groupFault (record3 8 ("+XII" ∷ "+ZII" ∷ [])) ≡ some Refusal.RecordLimits
-unfolding record3 opened
+unfolding record3 definitions
 clash-outside = refl
 
 -- 17, 7 and 15 write nothing; 7 comes before 17, and 15 before 7
 short : writeCanonical (record2 ("-ZZ" ∷ [])) (bytes "abcde") ≡ untouched (Written.Refused Refusal.ShortBuffer) (bytes "abcde")
-unfolding record2 opened
+unfolding record2 definitions
 short = refl
 
 faulty :
     writeCanonical (record3 1 ("+ZIZ" ∷ "-ZIZ" ∷ [])) (bytes "abc")
     ≡ untouched (Written.Refused (Refusal.MinusIdentity 4 Family.Generator)) (bytes "abc")
-unfolding record3 opened
+unfolding record3 definitions
 faulty = refl
 
 outside : writeCanonical (record3 8 ("+ZIZ" ∷ "-ZIZ" ∷ [])) [] ≡ untouched (Written.Refused Refusal.RecordLimits) []
-unfolding record3 opened
+unfolding record3 definitions
 outside = refl

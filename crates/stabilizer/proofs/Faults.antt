@@ -16,7 +16,7 @@ use Rattle.pauli.specs.declared.Sign.the-variants.{Plus, Minus}
 use Rattle.pauli.specs.Letters.{rowPhase, rowOf, signedRow, lettersOf, hasSign, isSignedRow, signOf}
 use Rattle.pauli.specs.Lists.{anyOf}
 use Rattle.pauli.specs.Masks.{dot}
-use Rattle.pauli.specs.Opened.{opened}
+use Rattle.pauli.specs.Definitions.{definitions}
 use Rattle.pauli.specs.Product.{identity, product, commutes, anticommutes, symplectic, modulo4, hasPhase, sameMasks, samePauli}
 use Rattle.pauli.proofs.Masks.{countOnes-zero, dot-comm}
 use Rattle.pauli.proofs.Modulo.{same-remainder}
@@ -88,7 +88,7 @@ clash-free-commuting at rows h =
 -- A signed row with the masks of I is I or -I.
 plus-or-minus : (P : Pauli) → isSignedRow P ≡ true → masksOf P ≡ masksOf identity
     → (modulo4 P ≡ modulo4 identity) ⊎ (modulo4 P ≡ modulo4 minusIdentity)
-unfolding masksOf minusIdentity opened
+unfolding masksOf minusIdentity definitions
 plus-or-minus P signed e =
     go (signOf P) (row-returns 0 P (rw (ap (λ (R : Pauli). R .a) e) (omega arith)) (rw (ap (λ (R : Pauli). R .b) e) (omega arith)) signed)
   where

@@ -12,7 +12,7 @@ use lib.ListN.{length, length-append}
 use lib.Pow.{pow-pos}
 use Rattle.pauli.specs.declared.Pauli.{Pauli}
 use Rattle.pauli.specs.Letters.{hasSign, isSignedRow}
-use Rattle.pauli.specs.Opened.{opened}
+use Rattle.pauli.specs.Definitions.{definitions}
 use Rattle.pauli.specs.Product.{identity, product, modulo4, hasPhase}
 use Rattle.pauli.proofs.Product.{product-assoc}
 use Rattle.pauli.proofs.Rows.{rows-product}
@@ -97,7 +97,7 @@ module _ (n : ℕ) where
   row-whole P = rw mod-mod
 
   identity-row : isRow n identity ≡ true
-  unfolding isRow onQubits opened
+  unfolding isRow onQubits definitions
   identity-row = rw (lt-ltb 0 (2 ^ n) (pow-pos n))
 
   pub squares-rows : (rows : List Pauli) → Rows rows → Squares whole rows

@@ -1,5 +1,5 @@
 pub mod Group
 pub mod Checks
 pub mod Canonical
-pub mod Opened
+pub mod Definitions
 pub mod Statements

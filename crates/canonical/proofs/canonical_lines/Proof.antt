@@ -16,7 +16,7 @@ use Rattle.writer.proofs.Laid.{back, lent, length-lent, Holds, holds-nothing, h
 use Rattle.writer.proofs.Lines.{length-rowLineText, row-has-room}
 use Rattle.writer.proofs.Rows.{first-more, first-room}
 use Rattle.elimination.specs.Answers.{rowsIn}
-use Rattle.elimination.proofs.Room.{room-of}
+use Rattle.elimination.proofs.ArrayLength.{room-of}
 use borrow.Author.Needs.{needs}
 use Rattle.canonical.proofs.canonical_lines.Statement.{statement}
 use Rattle.canonical.proofs.canonical_lines.Tie as tie
@@ -121,18 +121,6 @@ sub-write-row c = omega (arith, room (c .before), c .before .before .loop .inv .
 part-write-row-start : tie.Need-part-write-row-start Inv-loop μ-loop
 part-write-row-start c = omega (arith, room (c .before), c .before .before .loop .inv .1 .size)
 
-part-write-row-end : tie.Need-part-write-row-end Inv-loop μ-loop
-part-write-row-end c = search needs
-
-write-row-requires : tie.Need-write-row-requires Inv-loop μ-loop
-write-row-requires c κs = search needs
-
-enum-known-line : tie.Need-enum-known-line Inv-loop μ-loop
-enum-known-line c = search needs
-
-enum-told : tie.Need-enum-told Inv-loop μ-loop
-enum-told c = search needs
-
 same-length : tie.Need-same-length Inv-loop μ-loop
 same-length c = absurd (not-refused c)
 
@@ -145,12 +133,6 @@ add-end c =
     let n = start t .args .n in
     let long = length-rowLineText 104 n (getD (rows t) (t .before .loop .place) identity) in
     record { fits = omega (arith, room t, long, length-is (c .before), start t .good .0) }
-
-add-place : tie.Need-add-place Inv-loop μ-loop
-add-place c = search needs
-
-loop-less : tie.Need-loop-less Inv-loop μ-loop
-loop-less c = search needs
 
 loop-again : tie.Need-loop-again Inv-loop μ-loop
 loop-again c = (search needs, held (c .before))
@@ -179,15 +161,15 @@ canonical-lines-spec =
     element-copy-out-write-row
     sub-write-row
     part-write-row-start
-    part-write-row-end
-    write-row-requires
-    enum-known-line
-    enum-told
+    (λ c. search needs)
+    (λ c κs. search needs)
+    (λ c. search needs)
+    (λ c. search needs)
     same-length
     returns
     add-end
-    add-place
-    loop-less
+    (λ c. search needs)
+    (λ c. search needs)
     loop-again
     same-length-2
     returns-2)

@@ -55,15 +55,6 @@ room c = let p = passed c in omega (arith, c .if1 .left, length-is (code p) (pas
 
 -- ---- the needs
 
-eliminate-requires : tie.Need-eliminate-requires
-eliminate-requires c κs = search needs
-
-enum-told : tie.Need-enum-told
-enum-told c = search needs
-
-enum-known-answer : tie.Need-enum-known-answer
-enum-known-answer c = search needs
-
 returns : tie.Need-returns
 unfolding writeCanonical untouched
 returns c =
@@ -98,9 +89,6 @@ canonical-lines-requires c κs =
     let short = few p in
     (short .0, (omega (arith, short), omega (arith, room (c .before), ap length (text p))))
 
-same-length : tie.Need-same-length
-same-length c = search needs
-
 returns-3 : tie.Need-returns-3
 returns-3 c =
     let lines = c .before .before .canonical-lines in
@@ -116,13 +104,13 @@ pub write-canonical-spec : {M : Type 1} → statement M
 write-canonical-spec =
     tie.close
     (tie.spec
-    eliminate-requires
-    enum-told
-    enum-known-answer
+    (λ c κs. search needs)
+    (λ c. search needs)
+    (λ c. search needs)
     returns
     add-if1
     mul-if1
     returns-2
     canonical-lines-requires
-    same-length
+    (λ c. search needs)
     returns-3)

@@ -10,7 +10,7 @@ use Rattle.sheet.specs.declared.Refusal.{Refusal}
 use Rattle.sheet.specs.Refusals.{refuseIf, _then_}
 use Rattle.sheet.specs.Record.{generators, generatorsAt}
 use Rattle.sheet.proofs.Limits.{limits}
-use Rattle.sheet.proofs.Rooms.{sized-of}
+use Rattle.sheet.proofs.ArrayLengths.{sized-of}
 use Rattle.stabilizer.specs.Checks.{firstFault, clash}
 use Rattle.elimination.proofs.Walk.{Left, fault-at, fault-end}
 use borrow.Author.Needs.{needs}
@@ -65,12 +65,6 @@ returns : tie.Need-returns Inv-loop μ-loop
 unfolding refuseIf _then_
 returns c = here (c .before) (c .if1 .taken)
 
-add-place : tie.Need-add-place Inv-loop μ-loop
-add-place c = search needs
-
-loop-less : tie.Need-loop-less Inv-loop μ-loop
-loop-less c = search needs
-
 loop-again : tie.Need-loop-again Inv-loop μ-loop
 unfolding refuseIf _then_
 loop-again c = (search needs, here (c .before) (c .if1 .left))
@@ -91,7 +85,7 @@ clash-spec =
     clashes-requires
     add-t6
     returns
-    add-place
-    loop-less
+    (λ c. search needs)
+    (λ c. search needs)
     loop-again
     returns-2)

@@ -7,8 +7,8 @@ use lib.ListN.{length, take, drop, getD}
 use Rattle.pauli.specs.declared.Pauli.{Pauli}
 use Rattle.pauli.specs.Lists.{anyOf}
 use Rattle.pauli.specs.Product.{identity, anticommutes}
-use Rattle.sheet.proofs.Rooms.{sized-of}
-use Rattle.elimination.proofs.Taken.{any-here, any-later, any-none}
+use Rattle.sheet.proofs.ArrayLengths.{sized-of}
+use Rattle.elimination.proofs.FirstRows.{any-here, any-later, any-none}
 use borrow.Author.Needs.{needs}
 use Rattle.elimination.proofs.clashes.Statement.{statement}
 use Rattle.elimination.proofs.clashes.Tie as tie
@@ -43,12 +43,6 @@ inside c =
 
 -- ---- the needs
 
-mul-p : tie.Need-mul-p Inv-loop μ-loop
-mul-p c = search needs
-
-element-copy-out-p : tie.Need-element-copy-out-p Inv-loop μ-loop
-element-copy-out-p c = search needs
-
 loop-holds : tie.Need-loop-holds Inv-loop μ-loop
 loop-holds c = (search needs, refl)
 
@@ -58,9 +52,6 @@ mul-commutes c = let few = start (c .before) .pre in search needs
 element-copy-out-commutes : tie.Need-element-copy-out-commutes Inv-loop μ-loop
 element-copy-out-commutes c = omega (arith, start (c .before) .pre, c .loop-test .taken)
 
-commutes-requires : tie.Need-commutes-requires Inv-loop μ-loop
-commutes-requires c κs = search needs
-
 returns : tie.Need-returns Inv-loop μ-loop
 returns c =
     let t = turn (c .before) in
@@ -68,12 +59,6 @@ returns c =
     let a = start loop .args in
     sym (any-here (anticommutes (row loop)) (a .t1 .g) (a .place) (loop .loop .earlier) (t .loop-test .taken) (inside t) (tested (c .before) ∙ c .if1 .taken))
     ∙ loop .loop .inv .1
-
-add-earlier : tie.Need-add-earlier Inv-loop μ-loop
-add-earlier c = search needs
-
-loop-less : tie.Need-loop-less Inv-loop μ-loop
-loop-less c = search needs
 
 loop-again : tie.Need-loop-again Inv-loop μ-loop
 loop-again c =
@@ -97,14 +82,14 @@ clashes-spec =
     (tie.spec
     Inv-loop
     μ-loop
-    mul-p
-    element-copy-out-p
+    (λ c. search needs)
+    (λ c. search needs)
     loop-holds
     mul-commutes
     element-copy-out-commutes
-    commutes-requires
+    (λ c κs. search needs)
     returns
-    add-earlier
-    loop-less
+    (λ c. search needs)
+    (λ c. search needs)
     loop-again
     returns-2)

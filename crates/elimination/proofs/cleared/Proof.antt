@@ -5,15 +5,6 @@ use Rattle.elimination.proofs.Clearing.{one-cleared, nothing-cleared}
 use Rattle.elimination.proofs.cleared.Statement.{statement}
 use Rattle.elimination.proofs.cleared.Tie as tie
 
-pivot-requires : tie.Need-pivot-requires
-pivot-requires c κs = search needs
-
-column-requires : tie.Need-column-requires
-column-requires c κs = search needs
-
-product-requires : tie.Need-product-requires
-product-requires c κs = search needs
-
 returns : tie.Need-returns
 returns c =
     let at = c .before .before in
@@ -27,4 +18,4 @@ returns-2 c =
     nothing-cleared (a .n) (a .h) (a .p) (at .before .pivot .ensures) (at .column .ensures) (c .if1 .left)
 
 pub cleared-spec : {M : Type 1} → statement M
-cleared-spec = tie.close (tie.spec pivot-requires column-requires product-requires returns returns-2)
+cleared-spec = tie.close (tie.spec (λ c κs. search needs) (λ c κs. search needs) (λ c κs. search needs) returns returns-2)

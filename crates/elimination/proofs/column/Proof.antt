@@ -6,17 +6,8 @@ use borrow.Author.Needs.{needs}
 use Rattle.elimination.proofs.column.Statement.{statement}
 use Rattle.elimination.proofs.column.Tie as tie
 
-bit-requires : tie.Need-bit-requires
-bit-requires c κs = search needs
-
 returns : tie.Need-returns
 returns c = let a = c .before .before .args in c .bit .ensures ∙ sym (column-x (a .n) (a .p) (a .place) (omega arith))
-
-add-if2 : tie.Need-add-if2
-add-if2 c = search needs
-
-bit-requires-2 : tie.Need-bit-requires-2
-bit-requires-2 c κs = search needs
 
 returns-2 : tie.Need-returns-2
 returns-2 c = let a = c .before .before .before .args in c .bit2 .ensures ∙ sym (column-z (a .n) (a .p) (a .place) (omega arith) (omega arith))
@@ -25,4 +16,4 @@ returns-3 : tie.Need-returns-3
 returns-3 c = let a = c .before .before .args in sym (column-outside (a .n) (a .p) (a .place) (omega arith))
 
 pub column-spec : {M : Type 1} → statement M
-column-spec = tie.close (tie.spec bit-requires returns add-if2 bit-requires-2 returns-2 returns-3)
+column-spec = tie.close (tie.spec (λ c κs. search needs) returns (λ c. search needs) (λ c κs. search needs) returns-2 returns-3)

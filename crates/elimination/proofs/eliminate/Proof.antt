@@ -7,7 +7,7 @@ use Rattle.sheet.specs.Record.{generators, generatorsAt, withinLimits}
 use Rattle.sheet.proofs.RowLimits.{passed, failed}
 use Rattle.stabilizer.specs.Checks.{firstFault, clash}
 use Rattle.elimination.specs.Answers.{checkedRefusal}
-use Rattle.elimination.proofs.Order.{outside-limits, clashing, clash-free}
+use Rattle.elimination.proofs.CheckOrder.{outside-limits, clashing, clash-free}
 use borrow.Author.Needs.{needs}
 use Rattle.elimination.proofs.eliminate.Statement.{statement}
 use Rattle.elimination.proofs.eliminate.Tie as tie
@@ -19,26 +19,11 @@ within c = passed (c .before .within-limits .ensures) (c .if1 .left)
 passes : (c : tie.After-enum-told) → none ≡ firstFault clash [] generatorsAt (generators (c .before .before .before .before .before .args .code))
 passes c = ap checkedRefusal (sym (c .enum-told .given .1)) ∙ c .before .before .clash .ensures
 
-within-limits-requires : tie.Need-within-limits-requires
-within-limits-requires c κs = search needs
-
-refused-requires : tie.Need-refused-requires
-refused-requires c κs = search needs
-
 returns : tie.Need-returns
 returns c = c .refused .ensures ∙ outside-limits _ (failed (c .before .before .within-limits .ensures) (c .before .if1 .taken))
 
 clash-requires : tie.Need-clash-requires
 clash-requires c κs = within c
-
-enum-told : tie.Need-enum-told
-enum-told c = search needs
-
-enum-told-2 : tie.Need-enum-told-2
-enum-told-2 c = search needs
-
-empty-requires : tie.Need-empty-requires
-empty-requires c κs = search needs
 
 returns-2 : tie.Need-returns-2
 returns-2 c =
@@ -56,13 +41,13 @@ pub eliminate-spec : {M : Type 1} → statement M
 eliminate-spec =
     tie.close
     (tie.spec
-    within-limits-requires
-    refused-requires
+    (λ c κs. search needs)
+    (λ c κs. search needs)
     returns
     clash-requires
-    enum-told
-    enum-told-2
-    empty-requires
+    (λ c. search needs)
+    (λ c. search needs)
+    (λ c κs. search needs)
     returns-2
     independence-requires
     returns-3)

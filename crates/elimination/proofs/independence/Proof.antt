@@ -9,7 +9,7 @@ use Rattle.sheet.specs.declared.Code.{Code}
 use Rattle.sheet.specs.declared.Refusal.{Refusal}
 use Rattle.sheet.specs.Record.{isRow, generators, generatorsAt}
 use Rattle.sheet.proofs.Limits.{limits}
-use Rattle.sheet.proofs.Rooms.{sized-of}
+use Rattle.sheet.proofs.ArrayLengths.{sized-of}
 use Rattle.stabilizer.specs.Canonical.{canonicalGenerators}
 use Rattle.stabilizer.proofs.All.{all-of}
 use Rattle.stabilizer.proofs.Faults.{clash-free-commuting}
@@ -74,9 +74,6 @@ module _ (c : tie.After-add Inv-loop μ-loop) where
 cast-empty : tie.Need-cast-empty Inv-loop μ-loop
 cast-empty c = let few = room c in record { fits = omega (arith, few) }
 
-empty-requires : tie.Need-empty-requires Inv-loop μ-loop
-empty-requires c κs = search needs
-
 loop-holds : tie.Need-loop-holds Inv-loop μ-loop
 loop-holds c = (search needs, stepped-none _ _ _ _ (c .empty .ensures))
 
@@ -96,38 +93,17 @@ add-requires c κs =
       omega (arith, few, stepped-count (known .n) (known .g) (known .r) (loop .loop .inv .1) (omega (arith, few, loop .loop .inv .0))),
     )
 
-enum-told : tie.Need-enum-told Inv-loop μ-loop
-enum-told c = search needs
-
-enum-told-2 : tie.Need-enum-told-2 Inv-loop μ-loop
-enum-told-2 c = search needs
-
 add-t15 : tie.Need-add-t15 Inv-loop μ-loop
 add-t15 c = let few = room (start (at (c .before .before))) in record { fits = omega (arith, few, at (c .before .before) .loop .inv .0) }
-
-refused-requires : tie.Need-refused-requires Inv-loop μ-loop
-refused-requires c κs = search needs
 
 returns : tie.Need-returns Inv-loop μ-loop
 returns c = let told = c .before in faulty (told .before .before) (told .enum-told2 .given .1) refl (c .refused .ensures)
 
-enum-told-3 : tie.Need-enum-told-3 Inv-loop μ-loop
-enum-told-3 c = search needs
-
 add-t18 : tie.Need-add-t18 Inv-loop μ-loop
 add-t18 c = let few = room (start (at (c .before .before))) in record { fits = omega (arith, few, at (c .before .before) .loop .inv .0) }
 
-refused-requires-2 : tie.Need-refused-requires-2 Inv-loop μ-loop
-refused-requires-2 c κs = search needs
-
 returns-2 : tie.Need-returns-2 Inv-loop μ-loop
 returns-2 c = let told = c .before in faulty (told .before .before) (told .enum-told3 .given .1) refl (c .refused2 .ensures)
-
-add-place : tie.Need-add-place Inv-loop μ-loop
-add-place c = search needs
-
-loop-less : tie.Need-loop-less Inv-loop μ-loop
-loop-less c = search needs
 
 loop-again : tie.Need-loop-again Inv-loop μ-loop
 loop-again c =
@@ -159,21 +135,21 @@ independence-spec =
     Inv-loop
     μ-loop
     cast-empty
-    empty-requires
+    (λ c κs. search needs)
     loop-holds
     mul-add
     element-copy-out-add
     add-requires
-    enum-told
-    enum-told-2
+    (λ c. search needs)
+    (λ c. search needs)
     add-t15
-    refused-requires
+    (λ c κs. search needs)
     returns
-    enum-told-3
+    (λ c. search needs)
     add-t18
-    refused-requires-2
+    (λ c κs. search needs)
     returns-2
-    add-place
-    loop-less
+    (λ c. search needs)
+    (λ c. search needs)
     loop-again
     returns-3)

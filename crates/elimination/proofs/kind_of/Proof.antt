@@ -1,12 +1,9 @@
 -- The masks are tried first, then the phase.
 use borrow.Author.Needs.{needs}
 use Rattle.sheet.proofs.RowLimits.{passed, failed}
-use Rattle.elimination.proofs.Left.{kind-independent, kind-minus, kind-plus}
+use Rattle.elimination.proofs.RowKinds.{kind-independent, kind-minus, kind-plus}
 use Rattle.elimination.proofs.kind_of.Statement.{statement}
 use Rattle.elimination.proofs.kind_of.Tie as tie
-
-is-identity-requires : tie.Need-is-identity-requires
-is-identity-requires c κs = search needs
 
 returns : tie.Need-returns
 returns c = kind-independent _ (failed (c .before .is-identity .ensures) (c .if1 .taken))
@@ -18,4 +15,4 @@ returns-3 : tie.Need-returns-3
 returns-3 c = let at = c .before .before .before in kind-plus (at .before .args .left) (passed (at .is-identity .ensures) (c .before .before .if1 .left)) (c .if2 .left)
 
 pub kind-of-spec : {M : Type 1} → statement M
-kind-of-spec = tie.close (tie.spec is-identity-requires returns returns-2 returns-3)
+kind-of-spec = tie.close (tie.spec (λ c κs. search needs) returns returns-2 returns-3)

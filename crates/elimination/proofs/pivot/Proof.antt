@@ -9,23 +9,8 @@ use borrow.Author.Needs.{needs}
 use Rattle.elimination.proofs.pivot.Statement.{statement}
 use Rattle.elimination.proofs.pivot.Tie as tie
 
-first-one-requires : tie.Need-first-one-requires
-first-one-requires c κs = search needs
-
-cast-result : tie.Need-cast-result
-cast-result c = search needs
-
 returns : tie.Need-returns
 returns c = let a = c .before .before .args in let first = c .before .first-one .ensures in first ∙ sym (pivot-x (a .n) (a .p) (omega (arith, first)))
-
-first-one-requires-2 : tie.Need-first-one-requires-2
-first-one-requires-2 c κs = search needs
-
-cast-result-2 : tie.Need-cast-result-2
-cast-result-2 c = search needs
-
-add-result : tie.Need-add-result
-add-result c = search needs
 
 returns-2 : tie.Need-returns-2
 returns-2 c =
@@ -34,4 +19,4 @@ returns-2 c =
     ap (λ (z : ℕ). a .n + z) (c .first-one2 .ensures) ∙ sym (pivot-z (a .n) (a .p) none)
 
 pub pivot-spec : {M : Type 1} → statement M
-pivot-spec = tie.close (tie.spec first-one-requires cast-result returns first-one-requires-2 cast-result-2 add-result returns-2)
+pivot-spec = tie.close (tie.spec (λ c κs. search needs) (λ c. search needs) returns (λ c κs. search needs) (λ c. search needs) (λ c. search needs) returns-2)

@@ -6,12 +6,9 @@ use borrow.Author.Needs.{needs}
 use Rattle.elimination.proofs.refused.Statement.{statement}
 use Rattle.elimination.proofs.refused.Tie as tie
 
-empty-requires : tie.Need-empty-requires
-empty-requires c κs = search needs
-
 returns : tie.Need-returns
 unfolding eliminated
 returns c = ap (λ rows. record { answer = Checked.Refused (c .before .args .refusal); reduced = rows }) (c .empty .ensures)
 
 pub refused-spec : {M : Type 1} → statement M
-refused-spec = tie.close (tie.spec empty-requires returns)
+refused-spec = tie.close (tie.spec (λ c κs. search needs) returns)

@@ -12,9 +12,6 @@ small c =
     let line : 31 * (c .args .n % 32 + 4) ≤ 1085 = omega arith in
     le-trans (mul-le-mul-right (c .args .n % 32 + 4) rows) line
 
-add-line : tie.Need-add-line
-add-line c = search needs
-
 mul-result : tie.Need-mul-result
 mul-result c = omega (arith, small c)
 
@@ -22,4 +19,4 @@ returns : tie.Need-returns
 returns c = small c
 
 pub lines-length-spec : {M : Type 1} → statement M
-lines-length-spec = tie.close (tie.spec add-line mul-result returns)
+lines-length-spec = tie.close (tie.spec (λ c. search needs) mul-result returns)

@@ -45,12 +45,6 @@ value-read : (c : tie.After-read-letters)
     → readLetters (take (n (start (behind-form c))) (drop 2 (s (start (behind-form c))))) ≡ rowIn (c .read-letters .result)
 value-read c = ap readLetters (sym (part-of 2 (n (start (behind-form c))) (s (start (behind-form c))))) ∙ sym (c .read-letters .ensures)
 
-key-of-requires : tie.Need-key-of-requires
-key-of-requires c κs = search needs
-
-refused-requires : tie.Need-refused-requires
-refused-requires c κs = search needs
-
 returns : tie.Need-returns
 returns c =
     let found = c .before .before in
@@ -62,22 +56,10 @@ returns c =
 is-line-requires : tie.Need-is-line-requires
 is-line-requires c κs = let key = sym (c .before .key-of .ensures) ∙ c .match .keys1 in (omega arith, search needs)
 
-refused-requires-2 : tie.Need-refused-requires-2
-refused-requires-2 c κs = search needs
-
 returns-2 : tie.Need-returns-2
 returns-2 c =
     reads-refused (c .refused2 .ensures)
     (claim-line-form _ _ _ ∙ line-off-form _ _ _ _ _ (form-is (c .before .before) ∙ not-true _ (c .before .if1 .taken)))
-
-add-read-letters : tie.Need-add-read-letters
-add-read-letters c = search needs
-
-sub-read-letters : tie.Need-sub-read-letters
-sub-read-letters c = search needs
-
-part-read-letters-start : tie.Need-part-read-letters-start
-part-read-letters-start c = search needs
 
 part-read-letters-end : tie.Need-part-read-letters-end
 part-read-letters-end c = omega (arith, within c)
@@ -87,24 +69,12 @@ read-letters-requires c κs =
     let first = start (c .before) in
     let size = part-length 2 (n first) (s first) (omega (arith, within (c .before))) in omega arith
 
-enum-known-row : tie.Need-enum-known-row
-enum-known-row c = search needs
-
-enum-told : tie.Need-enum-told
-enum-told c = search needs
-
-refused-requires-3 : tie.Need-refused-requires-3
-refused-requires-3 c κs = search needs
-
 returns-3 : tie.Need-returns-3
 returns-3 c =
     let found = c .before .before .before in
     reads-refused (c .refused3 .ensures)
     (claim-line-form _ _ _
     ∙ line-no-value _ _ _ _ _ (formed (behind-form found)) (value-read found ∙ ap rowIn (c .before .enum-told .given .1)))
-
-add-t9 : tie.Need-add-t9
-add-t9 c = search needs
 
 returns-4 : tie.Need-returns-4
 returns-4 c =
@@ -117,20 +87,20 @@ pub claim-line-spec : {M : Type 1} → statement M
 claim-line-spec =
     tie.close
     (tie.spec
-    key-of-requires
-    refused-requires
+    (λ c κs. search needs)
+    (λ c κs. search needs)
     returns
     is-line-requires
-    refused-requires-2
+    (λ c κs. search needs)
     returns-2
-    add-read-letters
-    sub-read-letters
-    part-read-letters-start
+    (λ c. search needs)
+    (λ c. search needs)
+    (λ c. search needs)
     part-read-letters-end
     read-letters-requires
-    enum-known-row
-    enum-told
-    refused-requires-3
+    (λ c. search needs)
+    (λ c. search needs)
+    (λ c κs. search needs)
     returns-3
-    add-t9
+    (λ c. search needs)
     returns-4)

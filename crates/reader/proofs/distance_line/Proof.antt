@@ -11,12 +11,6 @@ use Rattle.reader.proofs.distance_line.Tie as tie
 key-is : (c : tie.At-match-keys1) → keyOf (c .before .before .before .args .s .now) ≡ code "d"
 key-is c = sym (c .before .key-of .ensures) ∙ c .match .keys1
 
-key-of-requires : tie.Need-key-of-requires
-key-of-requires c κs = search needs
-
-refused-requires : tie.Need-refused-requires
-refused-requires c κs = search needs
-
 returns : tie.Need-returns
 returns c =
     let found = c .before .before in
@@ -26,9 +20,6 @@ returns c =
 
 number-line-requires : tie.Need-number-line-requires
 number-line-requires c κs = let key = key-is c in (omega arith, (omega arith, omega arith))
-
-in-range-requires : tie.Need-in-range-requires
-in-range-requires c κs = search needs
 
 returns-2 : tie.Need-returns-2
 returns-2 c =
@@ -41,9 +32,9 @@ pub distance-line-spec : {M : Type 1} → statement M
 distance-line-spec =
     tie.close
     (tie.spec
-    key-of-requires
-    refused-requires
+    (λ c κs. search needs)
+    (λ c κs. search needs)
     returns
     number-line-requires
-    in-range-requires
+    (λ c κs. search needs)
     returns-2)

@@ -79,9 +79,6 @@ line-read : (c : tie.After-answer Inv-loop μ-loop)
     (rowLine "g=" (n (line-at (c .before .before))) (3 + count (line-at (c .before .before))) (left (line-at (c .before .before))))
 line-read c = was-read (line-answer (c .before .before)) (c .answer .given .1)
 
-identity-requires : tie.Need-identity-requires Inv-loop μ-loop
-identity-requires c κs = search needs
-
 loop-holds : tie.Need-loop-holds Inv-loop μ-loop
 loop-holds c =
     let first = c .before .before in
@@ -90,27 +87,6 @@ loop-holds c =
       subst (λ one. Progress 32 R (first .args .s .now) (replicate 32 one) 0 0) (sym (c .identity .ensures)) (progress-start 32 R (first .args .s .now)),
     )
 
-sub-key-of : tie.Need-sub-key-of Inv-loop μ-loop
-sub-key-of c = search needs
-
-part-key-of-start : tie.Need-part-key-of-start Inv-loop μ-loop
-part-key-of-start c = search needs
-
-part-key-of-end : tie.Need-part-key-of-end Inv-loop μ-loop
-part-key-of-end c = search needs
-
-key-of-requires : tie.Need-key-of-requires Inv-loop μ-loop
-key-of-requires c κs = search needs
-
-sub-if1 : tie.Need-sub-if1 Inv-loop μ-loop
-sub-if1 c = search needs
-
-add-t17 : tie.Need-add-t17 Inv-loop μ-loop
-add-t17 c = search needs
-
-refused-requires : tie.Need-refused-requires Inv-loop μ-loop
-refused-requires c κs = search needs
-
 returns : tie.Need-returns Inv-loop μ-loop
 returns c =
     let found = c .before .before in (
@@ -118,30 +94,6 @@ returns c =
       reads-refused (c .refused .ensures .0)
           (refused-from (key-at (found .before)) (generators-too-many _ _ _ (is-g found) (c .before .if1 .taken))),
     )
-
-sub-row-line : tie.Need-sub-row-line Inv-loop μ-loop
-sub-row-line c = search needs
-
-part-row-line-start : tie.Need-part-row-line-start Inv-loop μ-loop
-part-row-line-start c = search needs
-
-part-row-line-end : tie.Need-part-row-line-end Inv-loop μ-loop
-part-row-line-end c = search needs
-
-add-row-line : tie.Need-add-row-line Inv-loop μ-loop
-add-row-line c = search needs
-
-row-line-requires : tie.Need-row-line-requires Inv-loop μ-loop
-row-line-requires c κs = search needs
-
-enum-known-answer : tie.Need-enum-known-answer Inv-loop μ-loop
-enum-known-answer c = search needs
-
-enum-told : tie.Need-enum-told Inv-loop μ-loop
-enum-told c = search needs
-
-refused-requires-2 : tie.Need-refused-requires-2 Inv-loop μ-loop
-refused-requires-2 c κs = search needs
 
 returns-2 : tie.Need-returns-2 Inv-loop μ-loop
 returns-2 c =
@@ -152,23 +104,11 @@ returns-2 c =
           (generators-refused _ _ _ (is-g (g-key found)) (search needs) (was-refused (line-answer found) (c .before .enum-told .given .1)))),
     )
 
-mul-rows : tie.Need-mul-rows Inv-loop μ-loop
-mul-rows c = search needs
-
-array-set-from-rows : tie.Need-array-set-from-rows Inv-loop μ-loop
-array-set-from-rows c = search needs
-
-add-count : tie.Need-add-count Inv-loop μ-loop
-add-count c = search needs
-
 add-used : tie.Need-add-used Inv-loop μ-loop
 add-used c =
     let found = c .before .before in
     let behind = line-at (found .before .before) in
     omega (arith, line-read found .within, length-drop (behind .loop .used) (s behind))
-
-loop-less : tie.Need-loop-less Inv-loop μ-loop
-loop-less c = search needs
 
 loop-again : tie.Need-loop-again Inv-loop μ-loop
 loop-again c =
@@ -178,9 +118,6 @@ loop-again c =
       progress-row 32 (generatorsLeft (n behind)) (s behind) (so-far behind) _ _ (search needs) (line-read found .within)
           (generators-row _ _ _ (is-g (g-key (found .before .before))) (search needs) (line-read found .gives)),
     )
-
-refused-requires-3 : tie.Need-refused-requires-3 Inv-loop μ-loop
-refused-requires-3 c κs = search needs
 
 returns-3 : tie.Need-returns-3 Inv-loop μ-loop
 returns-3 c =
@@ -211,31 +148,31 @@ generator-lines-spec =
     (tie.spec
     Inv-loop
     μ-loop
-    identity-requires
+    (λ c κs. search needs)
     loop-holds
-    sub-key-of
-    part-key-of-start
-    part-key-of-end
-    key-of-requires
-    sub-if1
-    add-t17
-    refused-requires
+    (λ c. search needs)
+    (λ c. search needs)
+    (λ c. search needs)
+    (λ c κs. search needs)
+    (λ c. search needs)
+    (λ c. search needs)
+    (λ c κs. search needs)
     returns
-    sub-row-line
-    part-row-line-start
-    part-row-line-end
-    add-row-line
-    row-line-requires
-    enum-known-answer
-    enum-told
-    refused-requires-2
+    (λ c. search needs)
+    (λ c. search needs)
+    (λ c. search needs)
+    (λ c. search needs)
+    (λ c κs. search needs)
+    (λ c. search needs)
+    (λ c. search needs)
+    (λ c κs. search needs)
     returns-2
-    mul-rows
-    array-set-from-rows
-    add-count
+    (λ c. search needs)
+    (λ c. search needs)
+    (λ c. search needs)
     add-used
-    loop-less
+    (λ c. search needs)
     loop-again
-    refused-requires-3
+    (λ c κs. search needs)
     returns-3
     returns-4)

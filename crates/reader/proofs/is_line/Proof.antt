@@ -9,17 +9,8 @@ use Rattle.reader.proofs.Lines.{line-feed-decides}
 use Rattle.reader.proofs.is_line.Statement.{statement}
 use Rattle.reader.proofs.is_line.Tie as tie
 
-add-if1 : tie.Need-add-if1
-add-if1 c = search needs
-
 -- src/lib.rt:54:26
-add-result : tie.Need-add-result
-add-result c = search needs
-
 -- src/lib.rt:54:24
-shared-slice-read-result : tie.Need-shared-slice-read-result
-shared-slice-read-result c = search needs
-
 -- src/lib.rt:49:1
 returns : tie.Need-returns
 returns c = let first = c .before .before in sym (line-feed-decides (first .args .m) (first .args .s .now) (first .pre .0))
@@ -33,4 +24,4 @@ returns-2 c =
     ∙ sym (line-feed-decides (first .args .m) s (first .pre .0))
 
 pub is-line-spec : {M : Type 1} → statement M
-is-line-spec = tie.close (tie.spec add-if1 add-result shared-slice-read-result returns returns-2)
+is-line-spec = tie.close (tie.spec (λ c. search needs) (λ c. search needs) (λ c. search needs) returns returns-2)

@@ -13,12 +13,6 @@ use Rattle.reader.proofs.key_of.Tie as tie
 returns : tie.Need-returns
 returns c = sym (key-short (c .before .args .s .now) (c .if1 .taken))
 
-shared-slice-read-match : tie.Need-shared-slice-read-match
-shared-slice-read-match c = search needs
-
-shared-slice-read-result : tie.Need-shared-slice-read-result
-shared-slice-read-result c = search needs
-
 returns-2 : tie.Need-returns-2
 unfolding keyOf
 returns-2 c =
@@ -34,4 +28,4 @@ returns-3 c =
 pub key-of-spec : {M : Type 1} → statement M
 key-of-spec =
     tie.close
-    (tie.spec returns shared-slice-read-match shared-slice-read-result returns-2 returns-3)
+    (tie.spec returns (λ c. search needs) (λ c. search needs) returns-2 returns-3)

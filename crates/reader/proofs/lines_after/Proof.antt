@@ -106,24 +106,6 @@ claim-read c = reached-more (z-read (z-of-w c) .within) (w-answer (c .before .be
 
 -- ---- the needs
 
-sub-k : tie.Need-sub-k
-sub-k c = search needs
-
-add-logical-lines : tie.Need-add-logical-lines
-add-logical-lines c = search needs
-
-logical-lines-requires : tie.Need-logical-lines-requires
-logical-lines-requires c κs = search needs
-
-enum-known-answer : tie.Need-enum-known-answer
-enum-known-answer c = search needs
-
-enum-told : tie.Need-enum-told
-enum-told c = search needs
-
-refused-requires : tie.Need-refused-requires
-refused-requires c κs = search needs
-
 returns : tie.Need-returns
 returns c =
     let found = c .before .before .before in
@@ -136,27 +118,6 @@ sub-logical-lines c = x-read (c .before) .within
 
 part-logical-lines-start : tie.Need-part-logical-lines-start
 part-logical-lines-start c = x-read (c .before) .within
-
-part-logical-lines-end : tie.Need-part-logical-lines-end
-part-logical-lines-end c = search needs
-
-add-logical-lines-2 : tie.Need-add-logical-lines-2
-add-logical-lines-2 c = search needs
-
-add-logical-lines-3 : tie.Need-add-logical-lines-3
-add-logical-lines-3 c = search needs
-
-logical-lines-requires-2 : tie.Need-logical-lines-requires-2
-logical-lines-requires-2 c κs = search needs
-
-enum-known-answer-2 : tie.Need-enum-known-answer-2
-enum-known-answer-2 c = search needs
-
-enum-told-2 : tie.Need-enum-told-2
-enum-told-2 c = search needs
-
-refused-requires-2 : tie.Need-refused-requires-2
-refused-requires-2 c κs = search needs
 
 returns-2 : tie.Need-returns-2
 returns-2 c =
@@ -175,30 +136,6 @@ sub-claim-line c = z-read (c .before) .within
 part-claim-line-start : tie.Need-part-claim-line-start
 part-claim-line-start c = z-read (c .before) .within
 
-part-claim-line-end : tie.Need-part-claim-line-end
-part-claim-line-end c = search needs
-
-add-claim-line : tie.Need-add-claim-line
-add-claim-line c = search needs
-
-mul-claim-line : tie.Need-mul-claim-line
-mul-claim-line c = search needs
-
-add-claim-line-2 : tie.Need-add-claim-line-2
-add-claim-line-2 c = search needs
-
-claim-line-requires : tie.Need-claim-line-requires
-claim-line-requires c κs = search needs
-
-enum-known-answer-3 : tie.Need-enum-known-answer-3
-enum-known-answer-3 c = search needs
-
-enum-told-3 : tie.Need-enum-told-3
-enum-told-3 c = search needs
-
-refused-requires-3 : tie.Need-refused-requires-3
-refused-requires-3 c κs = search needs
-
 returns-3 : tie.Need-returns-3
 returns-3 c =
     let found = c .before .before .before in
@@ -211,15 +148,6 @@ add-t22 : tie.Need-add-t22
 add-t22 c =
     let found = c .before .before .before .before .before in
     record { fits = lt-of-le-of-lt (claim-read found .within) (start-end found .good .0 .0) }
-
-add-t31 : tie.Need-add-t31
-add-t31 c = search needs
-
-mul-t26 : tie.Need-mul-t26
-mul-t26 c = search needs
-
-add-t27 : tie.Need-add-t27
-add-t27 c = search needs
 
 returns-4 : tie.Need-returns-4
 unfolding claimAt logicalsAt generatorsAt logicalCount
@@ -234,37 +162,37 @@ pub lines-after-spec : {M : Type 1} → statement M
 lines-after-spec =
     tie.close
     (tie.spec
-    sub-k
-    add-logical-lines
-    logical-lines-requires
-    enum-known-answer
-    enum-told
-    refused-requires
+    (λ c. search needs)
+    (λ c. search needs)
+    (λ c κs. search needs)
+    (λ c. search needs)
+    (λ c. search needs)
+    (λ c κs. search needs)
     returns
     sub-logical-lines
     part-logical-lines-start
-    part-logical-lines-end
-    add-logical-lines-2
-    add-logical-lines-3
-    logical-lines-requires-2
-    enum-known-answer-2
-    enum-told-2
-    refused-requires-2
+    (λ c. search needs)
+    (λ c. search needs)
+    (λ c. search needs)
+    (λ c κs. search needs)
+    (λ c. search needs)
+    (λ c. search needs)
+    (λ c κs. search needs)
     returns-2
     add-to-w
     sub-claim-line
     part-claim-line-start
-    part-claim-line-end
-    add-claim-line
-    mul-claim-line
-    add-claim-line-2
-    claim-line-requires
-    enum-known-answer-3
-    enum-told-3
-    refused-requires-3
+    (λ c. search needs)
+    (λ c. search needs)
+    (λ c. search needs)
+    (λ c. search needs)
+    (λ c κs. search needs)
+    (λ c. search needs)
+    (λ c. search needs)
+    (λ c κs. search needs)
     returns-3
     add-t22
-    add-t31
-    mul-t26
-    add-t27
+    (λ c. search needs)
+    (λ c. search needs)
+    (λ c. search needs)
     returns-4)

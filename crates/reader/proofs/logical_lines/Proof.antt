@@ -57,9 +57,6 @@ line-read : (c : tie.After-answer Inv-loop μ-loop)
     (next-line (line-at (c .before .before)) (left (line-at (c .before .before))))
 line-read c = was-read (line-answer (c .before .before)) (c .answer .given .1)
 
-identity-requires : tie.Need-identity-requires Inv-loop μ-loop
-identity-requires c κs = search needs
-
 loop-holds : tie.Need-loop-holds Inv-loop μ-loop
 loop-holds c =
     let first = c .before .before in (
@@ -67,27 +64,6 @@ loop-holds c =
       subst (λ one. Progress 24 (R first) (first .args .s .now) (replicate 24 one) 0 0) (sym (c .identity .ensures))
           (progress-start 24 (R first) (first .args .s .now)),
     )
-
-sub-row-line : tie.Need-sub-row-line Inv-loop μ-loop
-sub-row-line c = search needs
-
-part-row-line-start : tie.Need-part-row-line-start Inv-loop μ-loop
-part-row-line-start c = search needs
-
-part-row-line-end : tie.Need-part-row-line-end Inv-loop μ-loop
-part-row-line-end c = search needs
-
-add-row-line : tie.Need-add-row-line Inv-loop μ-loop
-add-row-line c = search needs
-
-row-line-requires : tie.Need-row-line-requires Inv-loop μ-loop
-row-line-requires c κs = search needs
-
-enum-known-answer : tie.Need-enum-known-answer Inv-loop μ-loop
-enum-known-answer c = search needs
-
-enum-told : tie.Need-enum-told Inv-loop μ-loop
-enum-told c = search needs
 
 returns : tie.Need-returns Inv-loop μ-loop
 unfolding mapped continue
@@ -100,23 +76,11 @@ returns c =
     ∙ progress-refused 24 (R (start behind)) (s behind) (so-far behind)
     (logicals-refused _ _ _ _ _ _ (found .before .before .loop-test .taken) (was-refused (line-answer found) (c .enum-told .given .1)))))
 
-mul-rows : tie.Need-mul-rows Inv-loop μ-loop
-mul-rows c = search needs
-
-array-set-from-rows : tie.Need-array-set-from-rows Inv-loop μ-loop
-array-set-from-rows c = search needs
-
 add-used : tie.Need-add-used Inv-loop μ-loop
 add-used c =
     let found = c .before .before in
     let behind = line-at (found .before .before) in
     omega (arith, line-read found .within, length-drop (behind .loop .used) (s behind))
-
-add-place : tie.Need-add-place Inv-loop μ-loop
-add-place c = search needs
-
-loop-less : tie.Need-loop-less Inv-loop μ-loop
-loop-less c = search needs
 
 loop-again : tie.Need-loop-again Inv-loop μ-loop
 loop-again c =
@@ -144,20 +108,20 @@ logical-lines-spec =
     (tie.spec
     Inv-loop
     μ-loop
-    identity-requires
+    (λ c κs. search needs)
     loop-holds
-    sub-row-line
-    part-row-line-start
-    part-row-line-end
-    add-row-line
-    row-line-requires
-    enum-known-answer
-    enum-told
+    (λ c. search needs)
+    (λ c. search needs)
+    (λ c. search needs)
+    (λ c. search needs)
+    (λ c κs. search needs)
+    (λ c. search needs)
+    (λ c. search needs)
     returns
-    mul-rows
-    array-set-from-rows
+    (λ c. search needs)
+    (λ c. search needs)
     add-used
-    add-place
-    loop-less
+    (λ c. search needs)
+    (λ c. search needs)
     loop-again
     returns-2)

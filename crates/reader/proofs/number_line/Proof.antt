@@ -33,25 +33,10 @@ value-read : (c : tie.After-read-number)
 value-read c =
     ap readNumber (sym (part-of 2 (start (behind-form c) .args .digits) (s (start (behind-form c))))) ∙ sym (c .read-number .ensures)
 
-is-line-requires : tie.Need-is-line-requires
-is-line-requires c κs = search needs
-
-refused-requires : tie.Need-refused-requires
-refused-requires c κs = search needs
-
 returns : tie.Need-returns
 returns c =
     reads-refused (c .refused .ensures)
     (line-off-form _ _ _ _ _ (sym (c .before .before .is-line .ensures) ∙ not-true _ (c .before .if1 .taken)))
-
-add-read-number : tie.Need-add-read-number
-add-read-number c = search needs
-
-sub-read-number : tie.Need-sub-read-number
-sub-read-number c = search needs
-
-part-read-number-start : tie.Need-part-read-number-start
-part-read-number-start c = search needs
 
 part-read-number-end : tie.Need-part-read-number-end
 part-read-number-end c = omega (arith, within c)
@@ -62,23 +47,11 @@ read-number-requires c κs =
     let size = part-length 2 (first .args .digits) (s first) (omega (arith, within (c .before))) in
     (omega arith, omega arith)
 
-enum-known-number : tie.Need-enum-known-number
-enum-known-number c = search needs
-
-enum-told : tie.Need-enum-told
-enum-told c = search needs
-
-refused-requires-2 : tie.Need-refused-requires-2
-refused-requires-2 c κs = search needs
-
 returns-2 : tie.Need-returns-2
 returns-2 c =
     let found = c .before .before .before in
     reads-refused (c .refused2 .ensures)
     (line-no-value _ _ _ _ _ (formed (behind-form found)) (value-read found ∙ ap numberIn (c .before .enum-told .given .1)))
-
-add-t9 : tie.Need-add-t9
-add-t9 c = search needs
 
 returns-3 : tie.Need-returns-3
 returns-3 c =
@@ -90,17 +63,17 @@ pub number-line-spec : {M : Type 1} → statement M
 number-line-spec =
     tie.close
     (tie.spec
-    is-line-requires
-    refused-requires
+    (λ c κs. search needs)
+    (λ c κs. search needs)
     returns
-    add-read-number
-    sub-read-number
-    part-read-number-start
+    (λ c. search needs)
+    (λ c. search needs)
+    (λ c. search needs)
     part-read-number-end
     read-number-requires
-    enum-known-number
-    enum-told
-    refused-requires-2
+    (λ c. search needs)
+    (λ c. search needs)
+    (λ c κs. search needs)
     returns-2
-    add-t9
+    (λ c. search needs)
     returns-3)

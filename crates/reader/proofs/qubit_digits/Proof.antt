@@ -10,9 +10,6 @@ use borrow.Author.Needs.{needs}
 use Rattle.reader.proofs.qubit_digits.Statement.{statement}
 use Rattle.reader.proofs.qubit_digits.Tie as tie
 
-shared-slice-read-if2 : tie.Need-shared-slice-read-if2
-shared-slice-read-if2 c = search needs
-
 returns : tie.Need-returns
 unfolding qubitDigits lineFeed
 returns c = ap (λ b. cond b 1 2) (sym (c .if2 .taken))
@@ -24,4 +21,4 @@ returns-2 c =
     (λ w. ap (λ x. cond (eqb x 10) 1 2) (sym (List·getD-eq-default (c .before .args .s .now) 0 (w .left)))) (c .if1 .came)
 
 pub qubit-digits-spec : {M : Type 1} → statement M
-qubit-digits-spec = tie.close (tie.spec shared-slice-read-if2 returns returns-2)
+qubit-digits-spec = tie.close (tie.spec (λ c. search needs) returns returns-2)

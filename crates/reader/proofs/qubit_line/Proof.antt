@@ -12,12 +12,6 @@ use Rattle.reader.proofs.qubit_line.Tie as tie
 key-is : (c : tie.At-match-keys1) → keyOf (c .before .before .before .args .s .now) ≡ code "n"
 key-is c = sym (c .before .key-of .ensures) ∙ c .match .keys1
 
-key-of-requires : tie.Need-key-of-requires
-key-of-requires c κs = search needs
-
-refused-requires : tie.Need-refused-requires
-refused-requires c κs = search needs
-
 returns : tie.Need-returns
 returns c =
     let found = c .before .before in
@@ -25,18 +19,12 @@ returns c =
     (qubit-line-form _
     ∙ then-stop _ (line-off-form _ _ _ _ _ (other-key (code "n") _ _ (omega arith) (λ e. c .before .match .rest .1 (found .key-of .ensures ∙ e)))))
 
-qubit-digits-requires : tie.Need-qubit-digits-requires
-qubit-digits-requires c κs = search needs
-
 number-line-requires : tie.Need-number-line-requires
 number-line-requires c κs =
     let key = key-is (c .before) in
     let few = digits-few (c .before .before .before .before .args .s .now) in
     let digits = c .qubit-digits .ensures in
     (omega arith, (omega arith, omega arith))
-
-in-range-requires : tie.Need-in-range-requires
-in-range-requires c κs = search needs
 
 returns-2 : tie.Need-returns-2
 returns-2 c =
@@ -51,10 +39,10 @@ pub qubit-line-spec : {M : Type 1} → statement M
 qubit-line-spec =
     tie.close
     (tie.spec
-    key-of-requires
-    refused-requires
+    (λ c κs. search needs)
+    (λ c κs. search needs)
     returns
-    qubit-digits-requires
+    (λ c κs. search needs)
     number-line-requires
-    in-range-requires
+    (λ c κs. search needs)
     returns-2)

@@ -10,11 +10,8 @@ use Rattle.reader.proofs.read_digit.Tie as tie
 returns : tie.Need-returns
 returns c = sym (not-a-digit (c .before .args .c) (⊎-elim (λ w. inl (w .taken)) (λ w. inr (ltb-true _ _ (w .1 .taken))) (c .if1 .came)))
 
-cast-t5 : tie.Need-cast-t5
-cast-t5 c = search needs
-
 returns-2 : tie.Need-returns-2
 returns-2 c = sym (a-digit (c .before .before .args .c) (c .before .if1 .left) (ltb-false _ _ (c .if2 .left)))
 
 pub read-digit-spec : {M : Type 1} → statement M
-read-digit-spec = tie.close (tie.spec returns cast-t5 returns-2)
+read-digit-spec = tie.close (tie.spec returns (λ c. search needs) returns-2)

@@ -7,21 +7,9 @@ use borrow.Author.Needs.{needs}
 use Rattle.reader.proofs.read_form.Statement.{statement}
 use Rattle.reader.proofs.read_form.Tie as tie
 
-read-lines-requires : tie.Need-read-lines-requires
-read-lines-requires c κs = search needs
-
-enum-known-answer : tie.Need-enum-known-answer
-enum-known-answer c = search needs
-
-enum-told : tie.Need-enum-told
-enum-told c = search needs
-
 returns : tie.Need-returns
 unfolding formReading readForm linesReading
 returns c = form-refused (c .before .before .before .before .args .s .now) _ (readLines (c .before .before .before .before .args .s .now)) (c .before .before .read-lines .ensures) (c .enum-told .given .1)
-
-refused-requires : tie.Need-refused-requires
-refused-requires c κs = search needs
 
 returns-2 : tie.Need-returns-2
 unfolding formReading readForm linesReading
@@ -39,10 +27,10 @@ pub read-form-spec : {M : Type 1} → statement M
 read-form-spec =
     tie.close
     (tie.spec
-    read-lines-requires
-    enum-known-answer
-    enum-told
+    (λ c κs. search needs)
+    (λ c. search needs)
+    (λ c. search needs)
     returns
-    refused-requires
+    (λ c κs. search needs)
     returns-2
     returns-3)

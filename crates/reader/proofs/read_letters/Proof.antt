@@ -58,28 +58,10 @@ loop-holds : tie.Need-loop-holds Inv-loop μ-loop
 unfolding readLetters readEach ofLetters signedRow xMask zMask maskOf
 loop-holds c = (search needs, ap readLetters (drop-length (c .before .args .word .now)))
 
-sub-place : tie.Need-sub-place Inv-loop μ-loop
-sub-place c = search needs
-
-shared-slice-read-read : tie.Need-shared-slice-read-read Inv-loop μ-loop
-shared-slice-read-read c = search needs
-
-read-requires : tie.Need-read-requires Inv-loop μ-loop
-read-requires c κs = search needs
-
-enum-known-letter : tie.Need-enum-known-letter Inv-loop μ-loop
-enum-known-letter c = search needs
-
-enum-told : tie.Need-enum-told Inv-loop μ-loop
-enum-told c = search needs
-
 returns : tie.Need-returns Inv-loop μ-loop
 returns c =
     let found = c .before .before in
     sym (no-letter (word (read-at found)) (read-at found .loop .place - 1) (search needs) (letter-is found ∙ ap letterIn (c .enum-told .given .1)))
-
-x-bit-requires : tie.Need-x-bit-requires Inv-loop μ-loop
-x-bit-requires c κs = search needs
 
 mul-a : tie.Need-mul-a Inv-loop μ-loop
 mul-a c = omega (arith, small (letter-at (c .before .before)))
@@ -87,23 +69,14 @@ mul-a c = omega (arith, small (letter-at (c .before .before)))
 add-a : tie.Need-add-a Inv-loop μ-loop
 add-a c = omega (arith, more-small (c .before .before) _ _ (c .x-bit .ensures) refl .0)
 
-z-bit-requires : tie.Need-z-bit-requires Inv-loop μ-loop
-z-bit-requires c κs = search needs
-
 mul-b : tie.Need-mul-b Inv-loop μ-loop
 mul-b c = omega (arith, small (letter-at (c .before .before .before)))
 
 add-b : tie.Need-add-b Inv-loop μ-loop
 add-b c = omega (arith, more-small (c .before .before .before) _ _ (c .before .x-bit .ensures) (c .z-bit .ensures) .1)
 
-loop-less : tie.Need-loop-less Inv-loop μ-loop
-loop-less c = search needs
-
 loop-again : tie.Need-loop-again Inv-loop μ-loop
 loop-again c = (search needs, more (c .before .before .before) _ _ (c .before .x-bit .ensures) (c .z-bit .ensures))
-
-signed-requires : tie.Need-signed-requires Inv-loop μ-loop
-signed-requires c κs = search needs
 
 returns-2 : tie.Need-returns-2 Inv-loop μ-loop
 returns-2 c =
@@ -118,19 +91,19 @@ read-letters-spec =
     Inv-loop
     μ-loop
     loop-holds
-    sub-place
-    shared-slice-read-read
-    read-requires
-    enum-known-letter
-    enum-told
+    (λ c. search needs)
+    (λ c. search needs)
+    (λ c κs. search needs)
+    (λ c. search needs)
+    (λ c. search needs)
     returns
-    x-bit-requires
+    (λ c κs. search needs)
     mul-a
     add-a
-    z-bit-requires
+    (λ c κs. search needs)
     mul-b
     add-b
-    loop-less
+    (λ c. search needs)
     loop-again
-    signed-requires
+    (λ c κs. search needs)
     returns-2)

@@ -10,17 +10,11 @@ use borrow.Author.Needs.{needs}
 use Rattle.reader.proofs.read_lines.Statement.{statement}
 use Rattle.reader.proofs.read_lines.Tie as tie
 
-refused-requires : tie.Need-refused-requires
-refused-requires c κs = search needs
-
 returns : tie.Need-returns
 unfolding linesReading readLines answered
 returns c =
     let s = c .before .before .before .args .s .now in
     c .refused .ensures ∙ ap (λ b. answered s (cond b (stop Refusal.TooLong) (sheetLines s))) (sym (lt-ltb 4096 (length s) (c .before .if1 .taken)))
-
-sheet-lines-requires : tie.Need-sheet-lines-requires
-sheet-lines-requires c κs = search needs
 
 returns-2 : tie.Need-returns-2
 unfolding linesReading readLines
@@ -30,4 +24,4 @@ returns-2 c =
     ∙ ap (λ b. answered s (cond b (stop Refusal.TooLong) (sheetLines s))) (sym (le-ltb 4096 (length s) (c .before .if1 .left)))
 
 pub read-lines-spec : {M : Type 1} → statement M
-read-lines-spec = tie.close (tie.spec refused-requires returns sheet-lines-requires returns-2)
+read-lines-spec = tie.close (tie.spec (λ c κs. search needs) returns (λ c κs. search needs) returns-2)

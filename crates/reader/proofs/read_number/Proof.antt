@@ -30,18 +30,6 @@ word-at c = word (first-at c .before .before)
 second-is : (c : tie.After-second) → readDigit (getD (word-at (c .before .before)) 1 0) ≡ some (c .second .given .0 .0)
 second-is c = sym (c .before .before .read-digit2 .ensures) ∙ ap numberIn (c .second .given .1)
 
-shared-slice-read-read-digit : tie.Need-shared-slice-read-read-digit
-shared-slice-read-read-digit c = search needs
-
-read-digit-requires : tie.Need-read-digit-requires
-read-digit-requires c κs = search needs
-
-enum-known-first : tie.Need-enum-known-first
-enum-known-first c = search needs
-
-enum-told : tie.Need-enum-told
-enum-told c = search needs
-
 returns : tie.Need-returns
 returns c =
     let found = c .before .before in
@@ -54,18 +42,6 @@ returns-3 : tie.Need-returns-3
 returns-3 c =
     let found = c .before .before .before in
     sym (one-digit (first found) (c .before .if1 .left) (word (found .before .before)) (c .if2 .taken) (first-is found))
-
-shared-slice-read-read-digit-2 : tie.Need-shared-slice-read-read-digit-2
-shared-slice-read-read-digit-2 c = search needs
-
-read-digit-requires-2 : tie.Need-read-digit-requires-2
-read-digit-requires-2 c κs = search needs
-
-enum-known-second : tie.Need-enum-known-second
-enum-known-second c = search needs
-
-enum-told-2 : tie.Need-enum-told-2
-enum-told-2 c = search needs
 
 returns-4 : tie.Need-returns-4
 returns-4 c =
@@ -91,17 +67,17 @@ pub read-number-spec : {M : Type 1} → statement M
 read-number-spec =
     tie.close
     (tie.spec
-    shared-slice-read-read-digit
-    read-digit-requires
-    enum-known-first
-    enum-told
+    (λ c. search needs)
+    (λ c κs. search needs)
+    (λ c. search needs)
+    (λ c. search needs)
     returns
     returns-2
     returns-3
-    shared-slice-read-read-digit-2
-    read-digit-requires-2
-    enum-known-second
-    enum-told-2
+    (λ c. search needs)
+    (λ c κs. search needs)
+    (λ c. search needs)
+    (λ c. search needs)
     returns-4
     mul-t8
     add-t11

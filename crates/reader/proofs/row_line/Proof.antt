@@ -62,15 +62,6 @@ letters-are : (c : tie.After-read-letters)
 letters-are c =
     let first = start (form-of-letters c .before) in ap readLetters (sym (part-of 3 (n first) (s first))) ∙ sym (c .read-letters .ensures)
 
-key-of-requires : tie.Need-key-of-requires
-key-of-requires c κs = search needs
-
-key-requires : tie.Need-key-requires
-key-requires c κs = search needs
-
-refused-requires : tie.Need-refused-requires
-refused-requires c κs = search needs
-
 returns : tie.Need-returns
 returns c =
     let found = c .before .before in
@@ -79,14 +70,8 @@ returns c =
     (row-off-form (f first) (n first) (first .args .at) (s first)
     (other-key _ _ _ (key-positive (f first)) (λ e. c .before .if1 .taken (found .before .key-of .ensures ∙ e ∙ sym (found .key .ensures)))))
 
-add-is-line : tie.Need-add-is-line
-add-is-line c = search needs
-
 is-line-requires : tie.Need-is-line-requires
 is-line-requires c κs = (subst (λ k. 0 < k) (sym (key-is c)) (key-positive (f (c .before .before .before .before))), search needs)
-
-refused-requires-2 : tie.Need-refused-requires-2
-refused-requires-2 c κs = search needs
 
 returns-2 : tie.Need-returns-2
 returns-2 c =
@@ -97,33 +82,12 @@ returns-2 c =
 shared-slice-read-read : tie.Need-shared-slice-read-read
 shared-slice-read-read c = omega (arith, within (c .before))
 
-read-requires : tie.Need-read-requires
-read-requires c κs = search needs
-
-enum-known-sign : tie.Need-enum-known-sign
-enum-known-sign c = search needs
-
-enum-told : tie.Need-enum-told
-enum-told c = search needs
-
-refused-requires-3 : tie.Need-refused-requires-3
-refused-requires-3 c κs = search needs
-
 returns-3 : tie.Need-returns-3
 returns-3 c =
     let found = c .before .before .before in
     let first = start (form-of-sign found .before) in
     reads-refused (c .refused3 .ensures)
     (row-line-no-sign (f first) (n first) (first .args .at) (s first) (formed (form-of-sign found)) (sign-is found ∙ ap signIn (c .before .enum-told .given .1)))
-
-add-read-letters : tie.Need-add-read-letters
-add-read-letters c = search needs
-
-sub-read-letters : tie.Need-sub-read-letters
-sub-read-letters c = search needs
-
-part-read-letters-start : tie.Need-part-read-letters-start
-part-read-letters-start c = search needs
 
 part-read-letters-end : tie.Need-part-read-letters-end
 part-read-letters-end c = omega (arith, within (form-of-sign (c .before .before .before)))
@@ -134,27 +98,12 @@ read-letters-requires c κs =
     let first = start (form .before) in
     let size = part-length 3 (n first) (s first) (omega (arith, within form)) in omega arith
 
-enum-known-plus : tie.Need-enum-known-plus
-enum-known-plus c = search needs
-
-enum-told-2 : tie.Need-enum-told-2
-enum-told-2 c = search needs
-
-refused-requires-4 : tie.Need-refused-requires-4
-refused-requires-4 c κs = search needs
-
 returns-4 : tie.Need-returns-4
 returns-4 c =
     let found = c .before .before .before in
     let first = start (form-of-letters found .before) in
     reads-refused (c .refused4 .ensures)
     (row-line-no-letters (f first) (n first) (first .args .at) (s first) (formed (form-of-letters found)) (letters-are found ∙ ap rowIn (c .before .enum-told2 .given .1)))
-
-add-t10 : tie.Need-add-t10
-add-t10 c = search needs
-
-signed-requires : tie.Need-signed-requires
-signed-requires c κs = search needs
 
 returns-5 : tie.Need-returns-5
 returns-5 c =
@@ -171,29 +120,29 @@ pub row-line-spec : {M : Type 1} → statement M
 row-line-spec =
     tie.close
     (tie.spec
-    key-of-requires
-    key-requires
-    refused-requires
+    (λ c κs. search needs)
+    (λ c κs. search needs)
+    (λ c κs. search needs)
     returns
-    add-is-line
+    (λ c. search needs)
     is-line-requires
-    refused-requires-2
+    (λ c κs. search needs)
     returns-2
     shared-slice-read-read
-    read-requires
-    enum-known-sign
-    enum-told
-    refused-requires-3
+    (λ c κs. search needs)
+    (λ c. search needs)
+    (λ c. search needs)
+    (λ c κs. search needs)
     returns-3
-    add-read-letters
-    sub-read-letters
-    part-read-letters-start
+    (λ c. search needs)
+    (λ c. search needs)
+    (λ c. search needs)
     part-read-letters-end
     read-letters-requires
-    enum-known-plus
-    enum-told-2
-    refused-requires-4
+    (λ c. search needs)
+    (λ c. search needs)
+    (λ c κs. search needs)
     returns-4
-    add-t10
-    signed-requires
+    (λ c. search needs)
+    (λ c κs. search needs)
     returns-5)

@@ -107,18 +107,6 @@ tail-reading c =
 
 -- ---- the needs
 
-qubit-line-requires : tie.Need-qubit-line-requires
-qubit-line-requires c κs = search needs
-
-enum-known-answer : tie.Need-enum-known-answer
-enum-known-answer c = search needs
-
-enum-told : tie.Need-enum-told
-enum-told c = search needs
-
-refused-requires : tie.Need-refused-requires
-refused-requires c κs = search needs
-
 returns : tie.Need-returns
 returns c =
     sheet-refused (c .refused .ensures) (c .before .enum-told .given .1)
@@ -129,21 +117,6 @@ sub-distance-line c = n-read (c .before) .within
 
 part-distance-line-start : tie.Need-part-distance-line-start
 part-distance-line-start c = n-read (c .before) .within
-
-part-distance-line-end : tie.Need-part-distance-line-end
-part-distance-line-end c = search needs
-
-distance-line-requires : tie.Need-distance-line-requires
-distance-line-requires c κs = search needs
-
-enum-known-answer-2 : tie.Need-enum-known-answer-2
-enum-known-answer-2 c = search needs
-
-enum-told-2 : tie.Need-enum-told-2
-enum-told-2 c = search needs
-
-refused-requires-2 : tie.Need-refused-requires-2
-refused-requires-2 c κs = search needs
 
 returns-2 : tie.Need-returns-2
 returns-2 c =
@@ -160,20 +133,8 @@ sub-generator-lines c = d-read (c .before) .within
 part-generator-lines-start : tie.Need-part-generator-lines-start
 part-generator-lines-start c = d-read (c .before) .within
 
-part-generator-lines-end : tie.Need-part-generator-lines-end
-part-generator-lines-end c = search needs
-
 generator-lines-requires : tie.Need-generator-lines-requires
 generator-lines-requires c κs = let behind = n-of-d (c .before .before) in what-was-got (qubit-line-outcome (s behind)) (n-read behind .gives) .lawful
-
-enum-known-answer-3 : tie.Need-enum-known-answer-3
-enum-known-answer-3 c = search needs
-
-enum-told-3 : tie.Need-enum-told-3
-enum-told-3 c = search needs
-
-refused-requires-3 : tie.Need-refused-requires-3
-refused-requires-3 c κs = search needs
 
 returns-3 : tie.Need-returns-3
 returns-3 c =
@@ -191,19 +152,10 @@ sub-lines-after c = generators-read (c .before) .within
 part-lines-after-start : tie.Need-part-lines-after-start
 part-lines-after-start c = generators-read (c .before) .within
 
-part-lines-after-end : tie.Need-part-lines-after-end
-part-lines-after-end c = search needs
-
 lines-after-requires : tie.Need-lines-after-requires
 lines-after-requires c κs =
     let behind = n-of-g (c .before .before) in
     (what-was-got (qubit-line-outcome (s behind)) (n-read behind .gives) .lawful .1, c .before .before .before .before .generator-lines .ensures .0)
-
-enum-known-answer-4 : tie.Need-enum-known-answer-4
-enum-known-answer-4 c = search needs
-
-enum-told-4 : tie.Need-enum-told-4
-enum-told-4 c = search needs
 
 returns-4 : tie.Need-returns-4
 returns-4 c =
@@ -230,35 +182,35 @@ pub sheet-lines-spec : {M : Type 1} → statement M
 sheet-lines-spec =
     tie.close
     (tie.spec
-    qubit-line-requires
-    enum-known-answer
-    enum-told
-    refused-requires
+    (λ c κs. search needs)
+    (λ c. search needs)
+    (λ c. search needs)
+    (λ c κs. search needs)
     returns
     sub-distance-line
     part-distance-line-start
-    part-distance-line-end
-    distance-line-requires
-    enum-known-answer-2
-    enum-told-2
-    refused-requires-2
+    (λ c. search needs)
+    (λ c κs. search needs)
+    (λ c. search needs)
+    (λ c. search needs)
+    (λ c κs. search needs)
     returns-2
     add-to-g
     sub-generator-lines
     part-generator-lines-start
-    part-generator-lines-end
+    (λ c. search needs)
     generator-lines-requires
-    enum-known-answer-3
-    enum-told-3
-    refused-requires-3
+    (λ c. search needs)
+    (λ c. search needs)
+    (λ c κs. search needs)
     returns-3
     add-to-x
     sub-lines-after
     part-lines-after-start
-    part-lines-after-end
+    (λ c. search needs)
     lines-after-requires
-    enum-known-answer-4
-    enum-told-4
+    (λ c. search needs)
+    (λ c. search needs)
     returns-4
     add-t19
     returns-5)

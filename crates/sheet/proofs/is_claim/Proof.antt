@@ -6,12 +6,6 @@ use borrow.Author.Needs.{needs}
 use Rattle.sheet.proofs.is_claim.Statement.{statement}
 use Rattle.sheet.proofs.is_claim.Tie as tie
 
-on-qubits-requires : tie.Need-on-qubits-requires
-on-qubits-requires c κs = search needs
-
-has-sign-requires : tie.Need-has-sign-requires
-has-sign-requires c κs = search needs
-
 returns : tie.Need-returns
 unfolding isClaim
 returns c = c .has-sign .ensures ∙ and-true-l _ (sym (c .before .before .on-qubits .ensures) ∙ c .before .if1 .taken)
@@ -21,4 +15,4 @@ unfolding isClaim
 returns-2 c = c .before .on-qubits .ensures ∙ and-false-l _ (sym (c .before .on-qubits .ensures) ∙ c .if1 .left)
 
 pub is-claim-spec : {M : Type 1} → statement M
-is-claim-spec = tie.close (tie.spec on-qubits-requires has-sign-requires returns returns-2)
+is-claim-spec = tie.close (tie.spec (λ c κs. search needs) (λ c κs. search needs) returns returns-2)

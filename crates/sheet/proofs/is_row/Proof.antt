@@ -6,12 +6,6 @@ use borrow.Author.Needs.{needs}
 use Rattle.sheet.proofs.is_row.Statement.{statement}
 use Rattle.sheet.proofs.is_row.Tie as tie
 
-on-qubits-requires : tie.Need-on-qubits-requires
-on-qubits-requires c κs = search needs
-
-is-signed-row-requires : tie.Need-is-signed-row-requires
-is-signed-row-requires c κs = search needs
-
 returns : tie.Need-returns
 unfolding isRow
 returns c = c .is-signed-row .ensures ∙ and-true-l _ (sym (c .before .before .on-qubits .ensures) ∙ c .before .if1 .taken)
@@ -21,4 +15,4 @@ unfolding isRow
 returns-2 c = c .before .on-qubits .ensures ∙ and-false-l _ (sym (c .before .on-qubits .ensures) ∙ c .if1 .left)
 
 pub is-row-spec : {M : Type 1} → statement M
-is-row-spec = tie.close (tie.spec on-qubits-requires is-signed-row-requires returns returns-2)
+is-row-spec = tie.close (tie.spec (λ c κs. search needs) (λ c κs. search needs) returns returns-2)

@@ -9,12 +9,6 @@ use borrow.Author.Needs.{needs}
 use Rattle.sheet.proofs.on_qubits.Statement.{statement}
 use Rattle.sheet.proofs.on_qubits.Tie as tie
 
-cast-end : tie.Need-cast-end
-cast-end c = search needs
-
-shl-end : tie.Need-shl-end
-shl-end c = search needs
-
 returns : tie.Need-returns
 unfolding onQubits
 returns c =
@@ -30,4 +24,4 @@ returns-2 c =
     ∙ ap (λ end. ltb (P .a) end && ltb (P .b) end) (shifted-one (c .before .before .args .n) (c .before .before .pre))
 
 pub on-qubits-spec : {M : Type 1} → statement M
-on-qubits-spec = tie.close (tie.spec cast-end shl-end returns returns-2)
+on-qubits-spec = tie.close (tie.spec (λ c. search needs) (λ c. search needs) returns returns-2)

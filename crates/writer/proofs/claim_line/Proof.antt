@@ -47,22 +47,13 @@ sub-letters c = simp length-set (omega (arith, room (c .before)))
 part-letters-start : tie.Need-part-letters-start
 part-letters-start c = simp length-set (omega (arith, room (c .before)))
 
-part-letters-end : tie.Need-part-letters-end
-part-letters-end c = search needs
-
 letters-requires : tie.Need-letters-requires
 letters-requires c κs =
     let out = c .before .before .args .out .now in
     (search needs, omega (arith, room (c .before .before), length-lent 2 (sets out 0 front), length-sets out 0 front))
 
-add-out : tie.Need-add-out
-add-out c = search needs
-
 slice-write-out-3 : tie.Need-slice-write-out-3
 slice-write-out-3 c = let at = c .before .before in omega (arith, room (start at), length-lettered at)
-
-add-result : tie.Need-add-result
-add-result c = search needs
 
 same-length : tie.Need-same-length
 same-length c =
@@ -86,10 +77,10 @@ claim-line-spec =
     slice-write-out-2
     sub-letters
     part-letters-start
-    part-letters-end
+    (λ c. search needs)
     letters-requires
-    add-out
+    (λ c. search needs)
     slice-write-out-3
-    add-result
+    (λ c. search needs)
     same-length
     returns)

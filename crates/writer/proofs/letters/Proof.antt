@@ -41,20 +41,8 @@ loop-holds c = (search needs, laid-nothing _)
 cast-letter-on : tie.Need-cast-letter-on Inv-loop μ-loop
 cast-letter-on c = omega arith
 
-letter-on-requires : tie.Need-letter-on-requires Inv-loop μ-loop
-letter-on-requires c κs = search needs
-
-byte-requires : tie.Need-byte-requires Inv-loop μ-loop
-byte-requires c κs = search needs
-
 slice-write-out : tie.Need-slice-write-out Inv-loop μ-loop
 slice-write-out c = omega (arith, size (turn c))
-
-add-place : tie.Need-add-place Inv-loop μ-loop
-add-place c = search needs
-
-loop-less : tie.Need-loop-less Inv-loop μ-loop
-loop-less c = search needs
 
 loop-again : tie.Need-loop-again Inv-loop μ-loop
 loop-again c =
@@ -83,11 +71,11 @@ letters-spec =
     μ-loop
     loop-holds
     cast-letter-on
-    letter-on-requires
-    byte-requires
+    (λ c κs. search needs)
+    (λ c κs. search needs)
     slice-write-out
-    add-place
-    loop-less
+    (λ c. search needs)
+    (λ c. search needs)
     loop-again
     same-length
     returns)

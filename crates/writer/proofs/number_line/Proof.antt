@@ -42,49 +42,25 @@ slice-write-out c = omega (arith, number-room (c .args .key) (c .args .m))
 slice-write-out-2 : tie.Need-slice-write-out-2
 slice-write-out-2 c = simp length-set (omega (arith, number-room (c .args .key) (c .args .m)))
 
-cast-out : tie.Need-cast-out
-cast-out c = search needs
-
-add-out : tie.Need-add-out
-add-out c = search needs
-
 slice-write-out-3 : tie.Need-slice-write-out-3
 slice-write-out-3 c = simp length-set (omega (arith, one-room c))
 
 slice-write-out-4 : tie.Need-slice-write-out-4
 slice-write-out-4 c = simp length-set (omega (arith, one-room c))
 
-same-length : tie.Need-same-length
-same-length c = search needs
-
 returns : tie.Need-returns
 returns c =
     let out = c .before .args .out .now in
     (sym (ap length (one-is c)), sets-laid (one c) out (one-room c) ∙ ap (λ text. laid text out) (sym (one-is c)))
 
-cast-out-2 : tie.Need-cast-out-2
-cast-out-2 c = search needs
-
-add-out-2 : tie.Need-add-out-2
-add-out-2 c = search needs
-
 slice-write-out-5 : tie.Need-slice-write-out-5
 slice-write-out-5 c = simp length-set (omega (arith, two-room c))
-
-cast-out-3 : tie.Need-cast-out-3
-cast-out-3 c = search needs
-
-add-out-3 : tie.Need-add-out-3
-add-out-3 c = search needs
 
 slice-write-out-6 : tie.Need-slice-write-out-6
 slice-write-out-6 c = simp length-set (omega (arith, two-room c))
 
 slice-write-out-7 : tie.Need-slice-write-out-7
 slice-write-out-7 c = simp length-set (omega (arith, two-room c))
-
-same-length-2 : tie.Need-same-length-2
-same-length-2 c = search needs
 
 returns-2 : tie.Need-returns-2
 returns-2 c =
@@ -97,18 +73,18 @@ number-line-spec =
     (tie.spec
     slice-write-out
     slice-write-out-2
-    cast-out
-    add-out
+    (λ c. search needs)
+    (λ c. search needs)
     slice-write-out-3
     slice-write-out-4
-    same-length
+    (λ c. search needs)
     returns
-    cast-out-2
-    add-out-2
+    (λ c. search needs)
+    (λ c. search needs)
     slice-write-out-5
-    cast-out-3
-    add-out-3
+    (λ c. search needs)
+    (λ c. search needs)
     slice-write-out-6
     slice-write-out-7
-    same-length-2
+    (λ c. search needs)
     returns-2)

@@ -58,12 +58,6 @@ slice-write-out c = omega (arith, room (c .before))
 slice-write-out-2 : tie.Need-slice-write-out-2
 slice-write-out-2 c = simp length-set (omega (arith, room (c .before)))
 
-sign-requires : tie.Need-sign-requires
-sign-requires c κs = search needs
-
-byte-requires : tie.Need-byte-requires
-byte-requires c κs = search needs
-
 slice-write-out-3 : tie.Need-slice-write-out-3
 slice-write-out-3 c = simp length-set (omega (arith, room (start c)))
 
@@ -73,23 +67,14 @@ sub-letters c = simp length-set (omega (arith, room (start c)))
 part-letters-start : tie.Need-part-letters-start
 part-letters-start c = simp length-set (omega (arith, room (start c)))
 
-part-letters-end : tie.Need-part-letters-end
-part-letters-end c = search needs
-
 letters-requires : tie.Need-letters-requires
 letters-requires c κs =
     let at = c .before in
     let stored = sets (buffer at) 0 (front at) in
     (search needs, omega (arith, room (start at), length-lent 3 stored, length-sets (buffer at) 0 (front at)))
 
-add-out : tie.Need-add-out
-add-out c = search needs
-
 slice-write-out-4 : tie.Need-slice-write-out-4
 slice-write-out-4 c = let at = c .before .before in omega (arith, room (start (fronted at)), length-lettered at)
-
-add-result : tie.Need-add-result
-add-result c = search needs
 
 same-length : tie.Need-same-length
 same-length c =
@@ -114,15 +99,15 @@ row-line-spec =
     (tie.spec
     slice-write-out
     slice-write-out-2
-    sign-requires
-    byte-requires
+    (λ c κs. search needs)
+    (λ c κs. search needs)
     slice-write-out-3
     sub-letters
     part-letters-start
-    part-letters-end
+    (λ c. search needs)
     letters-requires
-    add-out
+    (λ c. search needs)
     slice-write-out-4
-    add-result
+    (λ c. search needs)
     same-length
     returns)

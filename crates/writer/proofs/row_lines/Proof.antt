@@ -86,15 +86,6 @@ sub-row-line c = omega (arith, room c, c .before .loop .inv .1 .size)
 part-row-line-start : tie.Need-part-row-line-start Inv-loop μ-loop
 part-row-line-start c = omega (arith, room c, c .before .loop .inv .1 .size)
 
-part-row-line-end : tie.Need-part-row-line-end Inv-loop μ-loop
-part-row-line-end c = search needs
-
-key-requires : tie.Need-key-requires Inv-loop μ-loop
-key-requires c κs = search needs
-
-row-requires : tie.Need-row-requires Inv-loop μ-loop
-row-requires c κs = search needs
-
 row-line-requires : tie.Need-row-line-requires Inv-loop μ-loop
 row-line-requires c κs =
     let turn = c .before .before .before in
@@ -106,12 +97,6 @@ add-end : tie.Need-add-end Inv-loop μ-loop
 add-end c =
     let at = c .before .before in
     omega (arith, room (turn at), length-line at, start (turn at) .good .0)
-
-add-place : tie.Need-add-place Inv-loop μ-loop
-add-place c = search needs
-
-loop-less : tie.Need-loop-less Inv-loop μ-loop
-loop-less c = search needs
 
 loop-again : tie.Need-loop-again Inv-loop μ-loop
 loop-again c = (search needs, held (c .before .before))
@@ -137,13 +122,13 @@ row-lines-spec =
     loop-holds
     sub-row-line
     part-row-line-start
-    part-row-line-end
-    key-requires
-    row-requires
+    (λ c. search needs)
+    (λ c κs. search needs)
+    (λ c κs. search needs)
     row-line-requires
     add-end
-    add-place
-    loop-less
+    (λ c. search needs)
+    (λ c. search needs)
     loop-again
     same-length
     returns)

@@ -4,7 +4,7 @@ use Prim.Native.Nat.{_≤_}
 use native.Mathlib.Omega.{arith}
 use Rattle.sheet.specs.Statements.{Sized}
 use Rattle.sheet.proofs.Limits.{Limits, limits}
-use Rattle.sheet.proofs.Rooms.{sized-of}
+use Rattle.sheet.proofs.ArrayLengths.{sized-of}
 use Rattle.writer.proofs.Sheet.{behindN, behindN-le, sheet-one, sheet-two}
 use Rattle.writer.proofs.sheet_length.Statement.{statement}
 use Rattle.writer.proofs.sheet_length.Tie as tie

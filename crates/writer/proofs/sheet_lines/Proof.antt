@@ -8,7 +8,7 @@ use Rattle.sheet.specs.declared.Code.{Code}
 use Rattle.sheet.specs.Statements.{Sized}
 use Rattle.sheet.specs.Text.{laid}
 use Rattle.sheet.proofs.Limits.{Limits, limits}
-use Rattle.sheet.proofs.Rooms.{sized-of}
+use Rattle.sheet.proofs.ArrayLengths.{sized-of}
 use Rattle.writer.proofs.Laid.{back, Holds, end-within, room-behind, holds-more}
 use Rattle.writer.proofs.Sheet.{toN, toD, toG, toX, toZ, toW, sheet-parts, Room, room}
 use borrow.Author.Needs.{needs}
@@ -114,9 +114,6 @@ sub-number-line c = end-within (heldN (c .before .before)) (fits (startN (c .bef
 part-number-line-start : tie.Need-part-number-line-start
 part-number-line-start c = end-within (heldN (c .before .before)) (fits (startN (c .before .before)) .n)
 
-part-number-line-end : tie.Need-part-number-line-end
-part-number-line-end c = search needs
-
 number-line-requires-2 : tie.Need-number-line-requires-2
 number-line-requires-2 c κs =
     let at = c .before .before .before in
@@ -132,9 +129,6 @@ sub-row-lines c = end-within (heldD (c .before .before)) (fits (startD (c .befor
 
 part-row-lines-start : tie.Need-part-row-lines-start
 part-row-lines-start c = end-within (heldD (c .before .before)) (fits (startD (c .before .before)) .d)
-
-part-row-lines-end : tie.Need-part-row-lines-end
-part-row-lines-end c = search needs
 
 row-lines-requires : tie.Need-row-lines-requires
 row-lines-requires c κs =
@@ -152,9 +146,6 @@ sub-row-lines-2 c = end-within (heldG (c .before .before)) (fits (startG (c .bef
 part-row-lines-start-2 : tie.Need-part-row-lines-start-2
 part-row-lines-start-2 c = end-within (heldG (c .before .before)) (fits (startG (c .before .before)) .g)
 
-part-row-lines-end-2 : tie.Need-part-row-lines-end-2
-part-row-lines-end-2 c = search needs
-
 row-lines-requires-2 : tie.Need-row-lines-requires-2
 row-lines-requires-2 c κs =
     let at = c .before .before .before in
@@ -170,9 +161,6 @@ sub-row-lines-3 c = end-within (heldX (c .before .before)) (fits (startX (c .bef
 
 part-row-lines-start-3 : tie.Need-part-row-lines-start-3
 part-row-lines-start-3 c = end-within (heldX (c .before .before)) (fits (startX (c .before .before)) .x)
-
-part-row-lines-end-3 : tie.Need-part-row-lines-end-3
-part-row-lines-end-3 c = search needs
 
 row-lines-requires-3 : tie.Need-row-lines-requires-3
 row-lines-requires-3 c κs =
@@ -190,9 +178,6 @@ sub-claim-line c = end-within (heldZ (c .before .before)) (fits (startZ (c .befo
 part-claim-line-start : tie.Need-part-claim-line-start
 part-claim-line-start c = end-within (heldZ (c .before .before)) (fits (startZ (c .before .before)) .z)
 
-part-claim-line-end : tie.Need-part-claim-line-end
-part-claim-line-end c = search needs
-
 claim-line-requires : tie.Need-claim-line-requires
 claim-line-requires c κs =
     let at = c .before .before .before in
@@ -202,9 +187,6 @@ add-end-5 : tie.Need-add-end-5
 add-end-5 c =
     let at = c .before .before in
     omega (arith, heldW at .count, fits (startW at) .w, startW at .good .0)
-
-same-length : tie.Need-same-length
-same-length c = search needs
 
 returns : tie.Need-returns
 returns c =
@@ -220,28 +202,28 @@ sheet-lines-spec =
     number-line-requires
     sub-number-line
     part-number-line-start
-    part-number-line-end
+    (λ c. search needs)
     number-line-requires-2
     add-end
     sub-row-lines
     part-row-lines-start
-    part-row-lines-end
+    (λ c. search needs)
     row-lines-requires
     add-end-2
     sub-row-lines-2
     part-row-lines-start-2
-    part-row-lines-end-2
+    (λ c. search needs)
     row-lines-requires-2
     add-end-3
     sub-row-lines-3
     part-row-lines-start-3
-    part-row-lines-end-3
+    (λ c. search needs)
     row-lines-requires-3
     add-end-4
     sub-claim-line
     part-claim-line-start
-    part-claim-line-end
+    (λ c. search needs)
     claim-line-requires
     add-end-5
-    same-length
+    (λ c. search needs)
     returns)

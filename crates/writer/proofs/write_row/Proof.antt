@@ -28,9 +28,6 @@ returns c =
     let e = sym (row-outside-limits (a .key) (a .n) (a .row) (a .out .now) (c .if1 .taken)) in
     (ap (λ after. after .answer) e, ap (λ after. after .buffer) e)
 
-add-if2 : tie.Need-add-if2
-add-if2 c = search needs
-
 returns-2 : tie.Need-returns-2
 unfolding untouched
 returns-2 c =
@@ -41,9 +38,6 @@ returns-2 c =
 
 row-line-requires : tie.Need-row-line-requires
 row-line-requires c κs = (c .before .before .if1 .left, room (c .before))
-
-same-length : tie.Need-same-length
-same-length c = search needs
 
 returns-3 : tie.Need-returns-3
 returns-3 c =
@@ -56,4 +50,4 @@ returns-3 c =
     )
 
 pub write-row-spec : {M : Type 1} → statement M
-write-row-spec = tie.close (tie.spec returns add-if2 returns-2 row-line-requires same-length returns-3)
+write-row-spec = tie.close (tie.spec returns (λ c. search needs) returns-2 row-line-requires (λ c. search needs) returns-3)

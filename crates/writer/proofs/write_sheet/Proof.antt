@@ -32,9 +32,6 @@ room c = omega (arith, c .before .sheet-length .ensures)
 
 -- ---- the needs
 
-within-limits-requires : tie.Need-within-limits-requires
-within-limits-requires c κs = search needs
-
 returns : tie.Need-returns
 unfolding untouched
 returns c =
@@ -56,9 +53,6 @@ returns-2 c =
 sheet-lines-requires : tie.Need-sheet-lines-requires
 sheet-lines-requires c κs = (within (lawful (c .before)), room (c .before))
 
-same-length : tie.Need-same-length
-same-length c = search needs
-
 returns-3 : tie.Need-returns-3
 returns-3 c =
     let lines = c .before .before in
@@ -73,10 +67,10 @@ pub write-sheet-spec : {M : Type 1} → statement M
 write-sheet-spec =
     tie.close
     (tie.spec
-    within-limits-requires
+    (λ c κs. search needs)
     returns
     sheet-length-requires
     returns-2
     sheet-lines-requires
-    same-length
+    (λ c. search needs)
     returns-3)

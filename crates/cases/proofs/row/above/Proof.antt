@@ -8,14 +8,8 @@ use borrow.Author.Needs.{needs}
 use Rattle.cases.proofs.row.above.Statement.{statement}
 use Rattle.cases.proofs.row.above.Tie as tie
 
-cast-result : tie.Need-cast-result
-cast-result c = search needs
-
-shl-result : tie.Need-shl-result
-shl-result c = search needs
-
 returns : tie.Need-returns
 returns c = let at = c .args .n % 32 in shl-exact 1 at 32 (omega arith) (omega arith) ∙ one-mul (2 ^ at)
 
 pub above-spec : {M : Type 1} → statement M
-above-spec = tie.close (tie.spec cast-result shl-result returns)
+above-spec = tie.close (tie.spec (λ c. search needs) (λ c. search needs) returns)

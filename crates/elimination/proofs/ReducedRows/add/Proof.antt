@@ -1,18 +1,9 @@
 -- What is left decides.
-use Rattle.elimination.proofs.Left.{step-dependent, step-independent}
+use Rattle.elimination.proofs.RowKinds.{step-dependent, step-independent}
 use mathlib.Core.Path.{sym, _∙_}
 use borrow.Author.Needs.{needs}
 use Rattle.elimination.proofs.ReducedRows.add.Statement.{statement}
 use Rattle.elimination.proofs.ReducedRows.add.Tie as tie
-
-reduce-requires : tie.Need-reduce-requires
-reduce-requires c κs = search needs
-
-is-identity-requires : tie.Need-is-identity-requires
-is-identity-requires c κs = search needs
-
-kind-of-requires : tie.Need-kind-of-requires
-kind-of-requires c κs = search needs
 
 returns : tie.Need-returns
 returns c =
@@ -21,12 +12,6 @@ returns c =
     let a = start .args in
     step-dependent (a .self) (a .p) _ (test .before .reduce .ensures) (start .pre .0) (sym (test .is-identity .ensures) ∙ c .before .if1 .taken)
     (c .kind-of .ensures)
-
-modulo4-requires : tie.Need-modulo4-requires
-modulo4-requires c κs = search needs
-
-insert-requires : tie.Need-insert-requires
-insert-requires c κs = search needs
 
 returns-2 : tie.Need-returns-2
 returns-2 c =
@@ -37,4 +22,4 @@ returns-2 c =
     (low .modulo4 .ensures) (c .insert .ensures)
 
 pub add-spec : {M : Type 1} → statement M
-add-spec = tie.close (tie.spec reduce-requires is-identity-requires kind-of-requires returns modulo4-requires insert-requires returns-2)
+add-spec = tie.close (tie.spec (λ c κs. search needs) (λ c κs. search needs) (λ c κs. search needs) returns (λ c κs. search needs) (λ c κs. search needs) returns-2)

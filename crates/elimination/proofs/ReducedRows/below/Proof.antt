@@ -8,8 +8,8 @@ use borrow.Author.Tests.{lt-ltb, le-ltb}
 use lib.Dec.{ltb}
 use Rattle.stabilizer.specs.Canonical.{pivot}
 use Rattle.elimination.specs.Step.{belowPivot}
-use Rattle.elimination.proofs.Grown.{Grown, grown-none, grown-as, grown-more, grown-all, below-stops, below-goes-on, below-nothing}
-use Rattle.elimination.proofs.Room.{room-of}
+use Rattle.elimination.proofs.GatheredRows.{Grown, grown-none, grown-as, grown-more, grown-all, below-stops, below-goes-on, below-nothing}
+use Rattle.elimination.proofs.ArrayLength.{room-of}
 use Rattle.elimination.proofs.Rows.{count-room, clearedFrom, cleared-at, cleared-end}
 use borrow.Author.Needs.{needs}
 use Rattle.elimination.proofs.ReducedRows.below.Statement.{statement}
@@ -49,12 +49,6 @@ tested c e = ap₂ ltb (sym (at c .before .before .pivot .ensures)) (sym (c .piv
 
 -- ---- the needs
 
-pivot-requires : tie.Need-pivot-requires Inv-loop μ-loop
-pivot-requires c κs = search needs
-
-empty-requires : tie.Need-empty-requires Inv-loop μ-loop
-empty-requires c κs = search needs
-
 loop-holds : tie.Need-loop-holds Inv-loop μ-loop
 loop-holds c = (search needs, grown-none _ _ _ (c .empty .ensures))
 
@@ -63,12 +57,6 @@ mul-cleared c = let short = few (c .before) in search needs
 
 element-copy-out-cleared : tie.Need-element-copy-out-cleared Inv-loop μ-loop
 element-copy-out-cleared c = omega (arith, few (c .before))
-
-cleared-requires : tie.Need-cleared-requires Inv-loop μ-loop
-cleared-requires c κs = search needs
-
-pivot-requires-2 : tie.Need-pivot-requires-2 Inv-loop μ-loop
-pivot-requires-2 c κs = search needs
 
 returns : tie.Need-returns Inv-loop μ-loop
 returns c =
@@ -82,12 +70,6 @@ mul-h c = let short = few (at (c .before)) in search needs
 
 element-set-from-h : tie.Need-element-set-from-h Inv-loop μ-loop
 element-set-from-h c = omega (arith, few (at (c .before)), c .before .before .before .before .loop-test .taken)
-
-add-place : tie.Need-add-place Inv-loop μ-loop
-add-place c = search needs
-
-loop-less : tie.Need-loop-less Inv-loop μ-loop
-loop-less c = search needs
 
 loop-again : tie.Need-loop-again Inv-loop μ-loop
 loop-again c =
@@ -113,17 +95,17 @@ below-spec =
     (tie.spec
     Inv-loop
     μ-loop
-    pivot-requires
-    empty-requires
+    (λ c κs. search needs)
+    (λ c κs. search needs)
     loop-holds
     mul-cleared
     element-copy-out-cleared
-    cleared-requires
-    pivot-requires-2
+    (λ c κs. search needs)
+    (λ c κs. search needs)
     returns
     mul-h
     element-set-from-h
-    add-place
-    loop-less
+    (λ c. search needs)
+    (λ c. search needs)
     loop-again
     returns-2)

@@ -6,15 +6,9 @@ use borrow.Author.Needs.{needs}
 use Rattle.elimination.proofs.ReducedRows.contains.Statement.{statement}
 use Rattle.elimination.proofs.ReducedRows.contains.Tie as tie
 
-reduce-requires : tie.Need-reduce-requires
-reduce-requires c κs = search needs
-
-is-identity-requires : tie.Need-is-identity-requires
-is-identity-requires c κs = search needs
-
 returns : tie.Need-returns
 unfolding reducesToIdentity
 returns c = c .is-identity .ensures ∙ ap (λ left. sameMasks left identity) (c .before .reduce .ensures)
 
 pub contains-spec : {M : Type 1} → statement M
-contains-spec = tie.close (tie.spec reduce-requires is-identity-requires returns)
+contains-spec = tie.close (tie.spec (λ c κs. search needs) (λ c κs. search needs) returns)

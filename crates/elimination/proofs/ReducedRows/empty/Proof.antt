@@ -8,12 +8,9 @@ use borrow.Author.Needs.{needs}
 use Rattle.elimination.proofs.ReducedRows.empty.Statement.{statement}
 use Rattle.elimination.proofs.ReducedRows.empty.Tie as tie
 
-identity-requires : tie.Need-identity-requires
-identity-requires c κs = search needs
-
 returns : tie.Need-returns
 unfolding reducedOf filled
 returns c = ap (λ one. value (c .before .args .n) 0 (replicate 32 one)) (c .identity .ensures)
 
 pub empty-spec : {M : Type 1} → statement M
-empty-spec = tie.close (tie.spec identity-requires returns)
+empty-spec = tie.close (tie.spec (λ c κs. search needs) returns)

@@ -8,7 +8,7 @@ use Rattle.pauli.specs.declared.Pauli.{Pauli}
 use Rattle.stabilizer.specs.Canonical.{cleared, insertByPivot}
 use Rattle.elimination.specs.Answers.{rowsIn, reducedOf}
 use Rattle.elimination.specs.Step.{belowPivot}
-use Rattle.elimination.proofs.Grown.{Grown, grown-as, grown-more, grown-all, inserted-behind, length-below}
+use Rattle.elimination.proofs.GatheredRows.{Grown, grown-as, grown-more, grown-all, inserted-behind, length-below}
 use Rattle.elimination.proofs.Rows.{count-is, count-room, clearedFrom, cleared-at, cleared-end}
 use borrow.Author.Needs.{needs}
 use Rattle.elimination.proofs.ReducedRows.insert.Statement.{statement}
@@ -96,12 +96,6 @@ mul-cleared c = let few = start (c .before) .pre .1 in search needs
 element-copy-out-cleared : tie.Need-element-copy-out-cleared Inv-loop μ-loop
 element-copy-out-cleared c = omega (arith, start (c .before) .pre .1)
 
-cleared-requires : tie.Need-cleared-requires Inv-loop μ-loop
-cleared-requires c κs = search needs
-
-add-place : tie.Need-add-place Inv-loop μ-loop
-add-place c = search needs
-
 mul-h : tie.Need-mul-h Inv-loop μ-loop
 mul-h c = let few = start (c .before .before .before) .pre .1 in search needs
 
@@ -110,9 +104,6 @@ element-set-from-h c = omega (arith, start (c .before .before .before) .pre .1)
 
 add-longer-2 : tie.Need-add-longer-2 Inv-loop μ-loop
 add-longer-2 c = let few = start (c .before .before .before) .pre .1 in search needs
-
-loop-less : tie.Need-loop-less Inv-loop μ-loop
-loop-less c = search needs
 
 loop-again : tie.Need-loop-again Inv-loop μ-loop
 loop-again c =
@@ -138,11 +129,11 @@ insert-spec =
     loop-holds
     mul-cleared
     element-copy-out-cleared
-    cleared-requires
-    add-place
+    (λ c κs. search needs)
+    (λ c. search needs)
     mul-h
     element-set-from-h
     add-longer-2
-    loop-less
+    (λ c. search needs)
     loop-again
     returns)

@@ -7,7 +7,7 @@ use lib.ListN.{length, drop}
 use Rattle.stabilizer.specs.Canonical.{reduced}
 use Rattle.elimination.specs.Answers.{rowsIn}
 use Rattle.elimination.proofs.Rows.{reduced-at, reduced-end}
-use Rattle.elimination.proofs.Room.{room-of}
+use Rattle.elimination.proofs.ArrayLength.{room-of}
 use borrow.Author.Needs.{needs}
 use borrow.Author.Tests.{ltb-true, ltb-false}
 use Rattle.elimination.proofs.ReducedRows.reduce.Statement.{statement}
@@ -27,18 +27,6 @@ few c = omega (arith, ltb-true)
 
 loop-holds : tie.Need-loop-holds Inv-loop μ-loop
 loop-holds c = refl
-
-mul-cleared : tie.Need-mul-cleared Inv-loop μ-loop
-mul-cleared c = search needs
-
-element-copy-out-cleared : tie.Need-element-copy-out-cleared Inv-loop μ-loop
-element-copy-out-cleared c = search needs
-
-cleared-requires : tie.Need-cleared-requires Inv-loop μ-loop
-cleared-requires c κs = search needs
-
-add-place : tie.Need-add-place Inv-loop μ-loop
-add-place c = search needs
 
 loop-less : tie.Need-loop-less Inv-loop μ-loop
 loop-less c = let turn = c .before .before in omega (arith, few turn)
@@ -70,10 +58,10 @@ reduce-spec =
     Inv-loop
     μ-loop
     loop-holds
-    mul-cleared
-    element-copy-out-cleared
-    cleared-requires
-    add-place
+    (λ c. search needs)
+    (λ c. search needs)
+    (λ c κs. search needs)
+    (λ c. search needs)
     loop-less
     loop-again
     returns

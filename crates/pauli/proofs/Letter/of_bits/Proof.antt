@@ -10,12 +10,6 @@ use Rattle.pauli.proofs.Letter.of_bits.Tie as tie
 chosen : (x z u v : ℕ) → x % 2 ≡ u → z % 2 ≡ v → letterAt u v ≡ letterAt (x % 2) (z % 2)
 chosen x z u v ex ez = ap₂ letterAt (sym ex) (sym ez)
 
-mul-match : tie.Need-mul-match
-mul-match c = search needs
-
-add-match : tie.Need-add-match
-add-match c = search needs
-
 returns : tie.Need-returns
 unfolding letterAt
 returns c = chosen (c .before .args .x) (c .before .args .z) 0 0 (omega (arith, c .match .keys1)) (omega (arith, c .match .keys1))
@@ -33,4 +27,4 @@ unfolding letterAt
 returns-4 c = chosen (c .before .args .x) (c .before .args .z) 1 1 (omega (arith, c .match .rest)) (omega (arith, c .match .rest))
 
 pub of-bits-spec : {M : Type 1} → statement M
-of-bits-spec = tie.close (tie.spec mul-match add-match returns returns-2 returns-3 returns-4)
+of-bits-spec = tie.close (tie.spec (λ c. search needs) (λ c. search needs) returns returns-2 returns-3 returns-4)

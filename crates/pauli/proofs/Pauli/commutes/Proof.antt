@@ -7,12 +7,9 @@ use Rattle.pauli.specs.Product.{commutes}
 use Rattle.pauli.proofs.Pauli.commutes.Statement.{statement}
 use Rattle.pauli.proofs.Pauli.commutes.Tie as tie
 
-symplectic-requires : tie.Need-symplectic-requires
-symplectic-requires c κs = search needs
-
 returns : tie.Need-returns
 unfolding commutes
 returns c = ap (λ (x : ℕ). eqb x 0) (c .symplectic .ensures)
 
 pub commutes-spec : {M : Type 1} → statement M
-commutes-spec = tie.close (tie.spec symplectic-requires returns)
+commutes-spec = tie.close (tie.spec (λ c κs. search needs) returns)

@@ -9,12 +9,9 @@ use Rattle.pauli.specs.Product.{hasPhase}
 use Rattle.pauli.proofs.Pauli.has_sign.Statement.{statement}
 use Rattle.pauli.proofs.Pauli.has_sign.Tie as tie
 
-row-phase-requires : tie.Need-row-phase-requires
-row-phase-requires c κs = search needs
-
 returns : tie.Need-returns
 unfolding hasSign hasPhase rowPhase
 returns c = ap (λ (x : ℕ). eqb (c .before .before .args .self .p % 4) x) (c .row-phase .ensures ∙ sym (mod-mod _ 4))
 
 pub has-sign-spec : {M : Type 1} → statement M
-has-sign-spec = tie.close (tie.spec row-phase-requires returns)
+has-sign-spec = tie.close (tie.spec (λ c κs. search needs) returns)

@@ -7,12 +7,6 @@ use Rattle.pauli.specs.Letters.{hasSign, isSignedRow}
 use Rattle.pauli.proofs.Pauli.is_signed_row.Statement.{statement}
 use Rattle.pauli.proofs.Pauli.is_signed_row.Tie as tie
 
-has-sign-requires : tie.Need-has-sign-requires
-has-sign-requires c κs = search needs
-
-has-sign-requires-2 : tie.Need-has-sign-requires-2
-has-sign-requires-2 c κs = search needs
-
 returns : tie.Need-returns
 unfolding isSignedRow
 returns c =
@@ -26,4 +20,4 @@ returns-2 c =
     c .has-sign2 .ensures ∙ ap (λ (plus : Bool). plus || hasSign Minus P) (sym (c .before .if1 .left) ∙ c .before .before .has-sign .ensures)
 
 pub is-signed-row-spec : {M : Type 1} → statement M
-is-signed-row-spec = tie.close (tie.spec has-sign-requires has-sign-requires-2 returns returns-2)
+is-signed-row-spec = tie.close (tie.spec (λ c κs. search needs) (λ c κs. search needs) returns returns-2)

@@ -6,15 +6,6 @@ use Rattle.pauli.proofs.Masks.{no-high-bits}
 use Rattle.pauli.proofs.Pauli.letter_on.Statement.{statement}
 use Rattle.pauli.proofs.Pauli.letter_on.Tie as tie
 
-shr-of-bits : tie.Need-shr-of-bits
-shr-of-bits c = search needs
-
-shr-of-bits-2 : tie.Need-shr-of-bits-2
-shr-of-bits-2 c = search needs
-
-of-bits-requires : tie.Need-of-bits-requires
-of-bits-requires c κs = search needs
-
 returns : tie.Need-returns
 unfolding letterOn
 returns c = c .of-bits .ensures
@@ -27,4 +18,4 @@ returns-2 c =
     rw (no-high-bits 32 (P .a) j (search needs) (omega arith), no-high-bits 32 (P .b) j (search needs) (omega arith))
 
 pub letter-on-spec : {M : Type 1} → statement M
-letter-on-spec = tie.close (tie.spec shr-of-bits shr-of-bits-2 of-bits-requires returns returns-2)
+letter-on-spec = tie.close (tie.spec (λ c. search needs) (λ c. search needs) (λ c κs. search needs) returns returns-2)

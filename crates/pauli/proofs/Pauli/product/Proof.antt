@@ -6,9 +6,6 @@ use Rattle.pauli.proofs.Product.{product-computed}
 use Rattle.pauli.proofs.Pauli.product.Statement.{statement}
 use Rattle.pauli.proofs.Pauli.product.Tie as tie
 
-add-t5 : tie.Need-add-t5
-add-t5 c = search needs
-
 mul-t8 : tie.Need-mul-t8
 mul-t8 c =
     let at = c .before .before .before .before in
@@ -25,4 +22,4 @@ returns c =
     product-computed (at .args .self) (at .args .q)
 
 pub product-spec : {M : Type 1} → statement M
-product-spec = tie.close (tie.spec add-t5 mul-t8 add-t9 returns)
+product-spec = tie.close (tie.spec (λ c. search needs) mul-t8 add-t9 returns)

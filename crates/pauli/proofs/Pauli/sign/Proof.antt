@@ -7,9 +7,6 @@ use Rattle.pauli.specs.Letters.{signOf}
 use Rattle.pauli.proofs.Pauli.sign.Statement.{statement}
 use Rattle.pauli.proofs.Pauli.sign.Tie as tie
 
-has-sign-requires : tie.Need-has-sign-requires
-has-sign-requires c κs = search needs
-
 returns : tie.Need-returns
 unfolding signOf
 returns c = ap (λ (plus : Bool). cond plus Plus Minus) (sym (c .if1 .taken) ∙ c .before .has-sign .ensures)
@@ -19,4 +16,4 @@ unfolding signOf
 returns-2 c = ap (λ (plus : Bool). cond plus Plus Minus) (sym (c .if1 .left) ∙ c .before .has-sign .ensures)
 
 pub sign-spec : {M : Type 1} → statement M
-sign-spec = tie.close (tie.spec has-sign-requires returns returns-2)
+sign-spec = tie.close (tie.spec (λ c κs. search needs) returns returns-2)

@@ -7,12 +7,9 @@ use Rattle.pauli.proofs.Product.{pauli}
 use Rattle.pauli.proofs.Pauli.signed.Statement.{statement}
 use Rattle.pauli.proofs.Pauli.signed.Tie as tie
 
-row-phase-requires : tie.Need-row-phase-requires
-row-phase-requires c κs = search needs
-
 returns : tie.Need-returns
 unfolding rowOf
 returns c = ap (λ (x : ℕ). pauli x (c .before .args .a) (c .before .args .b)) (c .row-phase .ensures)
 
 pub signed-spec : {M : Type 1} → statement M
-signed-spec = tie.close (tie.spec row-phase-requires returns)
+signed-spec = tie.close (tie.spec (λ c κs. search needs) returns)

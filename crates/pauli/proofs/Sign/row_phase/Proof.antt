@@ -14,9 +14,6 @@ signPhase-le : (sign : Sign) → signPhase sign ≤ 2
 signPhase-le Plus = omega arith
 signPhase-le Minus = omega arith
 
-phase-requires : tie.Need-phase-requires
-phase-requires c κs = search needs
-
 add-result : tie.Need-add-result
 add-result c =
     omega (arith, ones-and-le 32 (c .before .args .a) (c .before .args .b) (search needs), c .phase .ensures, signPhase-le (c .before .args .self))
@@ -26,4 +23,4 @@ unfolding rowPhase
 returns c = ap₂ (λ (x y : ℕ). (x + y) % 4) (sym (dot-ones (c .before .args .a) (c .before .args .b))) (c .phase .ensures)
 
 pub row-phase-spec : {M : Type 1} → statement M
-row-phase-spec = tie.close (tie.spec phase-requires add-result returns)
+row-phase-spec = tie.close (tie.spec (λ c κs. search needs) add-result returns)

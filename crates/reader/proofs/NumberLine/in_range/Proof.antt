@@ -6,17 +6,8 @@ use Rattle.reader.proofs.Lines.{range-refused, range-kept, reads-refuse
 use Rattle.reader.proofs.NumberLine.in_range.Statement.{statement}
 use Rattle.reader.proofs.NumberLine.in_range.Tie as tie
 
-enum-told : tie.Need-enum-told
-enum-told c = search needs
-
-enum-told-2 : tie.Need-enum-told-2
-enum-told-2 c = search needs
-
 returns : tie.Need-returns
 returns c = λ s p h. reads-refused (c .enum-told2 .given .1) (then-stop _ (was-refused h (c .enum-told2 .given .1)))
-
-refused-requires : tie.Need-refused-requires
-refused-requires c κs = search needs
 
 returns-2 : tie.Need-returns-2
 returns-2 c =
@@ -35,4 +26,4 @@ returns-3 c =
 
 pub in-range-spec : {M : Type 1} → statement M
 in-range-spec =
-    tie.close (tie.spec enum-told enum-told-2 returns refused-requires returns-2 returns-3)
+    tie.close (tie.spec (λ c. search needs) (λ c. search needs) returns (λ c κs. search needs) returns-2 returns-3)

@@ -9,7 +9,7 @@ use lib.ListN.{length, drop}
 use Rattle.pauli.specs.declared.Pauli.{Pauli}
 use Rattle.pauli.specs.Product.{identity, samePauli}
 use Rattle.sheet.specs.Record.{rowsOf, isRow, areRows}
-use Rattle.sheet.proofs.Rooms.{sized-of}
+use Rattle.sheet.proofs.ArrayLengths.{sized-of}
 use Rattle.sheet.proofs.RowLimits.{passed, failed, used-at, unused-at, areRows-behind-end, room-of}
 use borrow.Author.Needs.{needs}
 use Rattle.sheet.proofs.Code.are_rows.Statement.{statement}
@@ -48,9 +48,6 @@ left-unused c many test = c .before .before .loop .inv .2 ∙ unused-at _ _ (pla
 
 -- ---- the needs
 
-room-requires : tie.Need-room-requires Inv-loop μ-loop
-room-requires c κs = search needs
-
 loop-holds : tie.Need-loop-holds Inv-loop μ-loop
 loop-holds c =
     let a = c .before .args in
@@ -60,26 +57,11 @@ loop-holds c =
       ap (λ m. areRows (a .self .n) m (rowsOf (a .family) (a .self))) all,
     )
 
-row-requires : tie.Need-row-requires Inv-loop μ-loop
-row-requires c κs = search needs
-
-is-row-requires : tie.Need-is-row-requires Inv-loop μ-loop
-is-row-requires c κs = search needs
-
 returns : tie.Need-returns Inv-loop μ-loop
 returns c = sym (left-used (c .before .before .before) (c .before .before .if1 .taken) (failed (c .before .is-row .ensures) (c .if2 .taken)))
 
-is-identity-requires : tie.Need-is-identity-requires Inv-loop μ-loop
-is-identity-requires c κs = search needs
-
 returns-2 : tie.Need-returns-2 Inv-loop μ-loop
 returns-2 c = sym (left-unused (c .before .before .before) (c .before .before .if1 .left) (failed (c .before .is-identity .ensures) (c .if3 .taken)))
-
-add-place : tie.Need-add-place Inv-loop μ-loop
-add-place c = search needs
-
-loop-less : tie.Need-loop-less Inv-loop μ-loop
-loop-less c = search needs
 
 loop-again : tie.Need-loop-again Inv-loop μ-loop
 loop-again c = (
@@ -98,14 +80,14 @@ are-rows-spec =
     (tie.spec
     Inv-loop
     μ-loop
-    room-requires
+    (λ c κs. search needs)
     loop-holds
-    row-requires
-    is-row-requires
+    (λ c κs. search needs)
+    (λ c κs. search needs)
     returns
-    is-identity-requires
+    (λ c κs. search needs)
     returns-2
-    add-place
-    loop-less
+    (λ c. search needs)
+    (λ c. search needs)
     loop-again
     returns-3)

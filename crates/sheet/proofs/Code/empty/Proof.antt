@@ -6,9 +6,6 @@ use borrow.Author.Needs.{needs}
 use Rattle.sheet.proofs.Code.empty.Statement.{statement}
 use Rattle.sheet.proofs.Code.empty.Tie as tie
 
-identity-requires : tie.Need-identity-requires
-identity-requires c κs = search needs
-
 returns : tie.Need-returns
 unfolding emptyCode
 returns c =
@@ -16,4 +13,4 @@ returns c =
     (c .identity .ensures)
 
 pub empty-spec : {M : Type 1} → statement M
-empty-spec = tie.close (tie.spec identity-requires returns)
+empty-spec = tie.close (tie.spec (λ c κs. search needs) returns)

@@ -8,7 +8,7 @@ use Rattle.pauli.specs.Product.{identity}
 use Rattle.sheet.specs.declared.Code.{Code}
 use Rattle.sheet.specs.declared.Family.{Family}
 use Rattle.sheet.specs.Record.{rowsOf}
-use Rattle.sheet.proofs.Rooms.{sized-of}
+use Rattle.sheet.proofs.ArrayLengths.{sized-of}
 use borrow.Author.Needs.{needs}
 use Rattle.sheet.proofs.Code.row.Statement.{statement}
 use Rattle.sheet.proofs.Code.row.Tie as tie
@@ -22,44 +22,14 @@ behind-end : (code : Code) {family f : Family} {room place : ℕ} → family ≡
 behind-end code {f = f} {place = place} e sized h =
     sym (List·getD-eq-default (rowsOf f code) identity (omega arith)) ∙ of-family code place e
 
-enum-told : tie.Need-enum-told
-enum-told c = search needs
-
-mul-result : tie.Need-mul-result
-mul-result c = search needs
-
-element-copy-out-result : tie.Need-element-copy-out-result
-element-copy-out-result c = search needs
-
 returns : tie.Need-returns
 returns c = of-family _ _ (c .before .before .enum-told .given .1)
-
-enum-told-2 : tie.Need-enum-told-2
-enum-told-2 c = search needs
-
-mul-result-2 : tie.Need-mul-result-2
-mul-result-2 c = search needs
-
-element-copy-out-result-2 : tie.Need-element-copy-out-result-2
-element-copy-out-result-2 c = search needs
 
 returns-2 : tie.Need-returns-2
 returns-2 c = of-family _ _ (c .before .before .enum-told2 .given .1)
 
-enum-told-3 : tie.Need-enum-told-3
-enum-told-3 c = search needs
-
-mul-result-3 : tie.Need-mul-result-3
-mul-result-3 c = search needs
-
-element-copy-out-result-3 : tie.Need-element-copy-out-result-3
-element-copy-out-result-3 c = search needs
-
 returns-3 : tie.Need-returns-3
 returns-3 c = of-family _ _ (c .before .before .enum-told3 .given .1)
-
-identity-requires : tie.Need-identity-requires
-identity-requires c κs = search needs
 
 returns-4 : tie.Need-returns-4
 returns-4 c =
@@ -74,17 +44,17 @@ pub row-spec : {M : Type 1} → statement M
 row-spec =
     tie.close
     (tie.spec
-    enum-told
-    mul-result
-    element-copy-out-result
+    (λ c. search needs)
+    (λ c. search needs)
+    (λ c. search needs)
     returns
-    enum-told-2
-    mul-result-2
-    element-copy-out-result-2
+    (λ c. search needs)
+    (λ c. search needs)
+    (λ c. search needs)
     returns-2
-    enum-told-3
-    mul-result-3
-    element-copy-out-result-3
+    (λ c. search needs)
+    (λ c. search needs)
+    (λ c. search needs)
     returns-3
-    identity-requires
+    (λ c κs. search needs)
     returns-4)

@@ -81,24 +81,15 @@ heldZ c = passed (c .before .are-rows3 .ensures) (c .if6 .left)
 
 -- ---- the needs
 
-between-requires : tie.Need-between-requires
-between-requires c κs = search needs
-
 returns : tie.Need-returns
 returns c = outside (c .before .before .args .self) (failed (c .before .between .ensures) (c .if1 .taken)) (λ tests. tests .qubits)
 
 sub-between : tie.Need-sub-between
 sub-between c = omega (arith, between-bounds _ _ _ (heldN c))
 
-between-requires-2 : tie.Need-between-requires-2
-between-requires-2 c κs = search needs
-
 returns-2 : tie.Need-returns-2
 returns-2 c =
     outside (codeN (c .before .before)) (failed (c .before .between2 .ensures) (c .if2 .taken)) (λ tests. tests .generatorCount)
-
-between-requires-3 : tie.Need-between-requires-3
-between-requires-3 c κs = search needs
 
 returns-3 : tie.Need-returns-3
 returns-3 c = outside (codeR (c .before .before)) (failed (c .before .between3 .ensures) (c .if3 .taken)) (λ tests. tests .distance)
@@ -143,12 +134,12 @@ pub within-limits-spec : {M : Type 1} → statement M
 within-limits-spec =
     tie.close
     (tie.spec
-    between-requires
+    (λ c κs. search needs)
     returns
     sub-between
-    between-requires-2
+    (λ c κs. search needs)
     returns-2
-    between-requires-3
+    (λ c κs. search needs)
     returns-3
     are-rows-requires
     returns-4

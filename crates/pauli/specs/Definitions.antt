@@ -1,5 +1,5 @@
--- Every definition of this layer and of those below it that computes, to be opened at once where an example is computed: a proof that says
--- `unfolding opened` unfolds all that the line below names.
+-- Every definition of this layer and of those below it that computes, to be definitions at once where an example is computed: a proof that says
+-- `unfolding definitions` unfolds all that the line below names.
 use mathlib.Core.Bool.{xor}
 use mathlib.Core.List.{flatMap, zipWith}
 use Rattle.pauli.specs.Lists.{firstOf, anyOf, allOf, readByte, bytes}
@@ -9,6 +9,6 @@ use Rattle.pauli.specs.Syndrome.{syndrome, addBits}
 use Rattle.pauli.specs.Letters.{letterAt, lettersAt, lettersOf, letterOn, maskOf, xMask, zMask, countY, rowPhase, rowOf, signedRow, ofLetters, hasSign, isSignedRow, signOf, readLetter, readSign, letterText, rowText}
 use Rattle.pauli.specs.Order.{rank, letterWeight, weightOf, strings, stringsUpTo}
 
-unfoldable pub opened : Unit {0}
+unfoldable pub definitions : Unit {0}
 unfolding firstOf anyOf allOf readByte bytes onesAmong countOnes dot bits product negated inverse symplectic commutes anticommutes weight sameMasks modulo4 hasPhase samePauli syndrome addBits letterAt lettersAt lettersOf letterOn maskOf xMask zMask countY rowPhase rowOf signedRow ofLetters hasSign isSignedRow signOf readLetter readSign letterText rowText rank letterWeight weightOf strings stringsUpTo flatMap zipWith xor
-opened = tt
+definitions = tt

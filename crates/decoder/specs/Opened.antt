@@ -1,9 +1,0 @@
--- Every definition of this layer and of those below it that computes, to be opened at once where an example is computed: a proof that says
--- `unfolding opened` unfolds all that the line below names.
-use Rattle.admission.specs.Opened.{opened as opened-admission}
-use Rattle.decoder.specs.Syndrome.{sameBits, bitByte, readBit, syndromeText, isNone, readSyndrome, syndromeFault, writeSyndrome, syndromeRefusal}
-use Rattle.decoder.specs.Correction.{hasSyndrome, correction, corrected, decode, decodedRefusal}
-
-unfoldable pub opened : Unit {0}
-unfolding sameBits bitByte readBit syndromeText isNone readSyndrome syndromeFault writeSyndrome syndromeRefusal hasSyndrome correction corrected decode decodedRefusal opened-admission
-opened = tt
