@@ -42,8 +42,9 @@ pub fn most_generators(n: usize) -> usize
     if n > 0 { n - 1 } else { 0 }
 }
 
-// The code that a sheet describes: n qubits, r generators, claimed distance d. The first r rows of g are the generators,
-// the first n - r of x and of z the logical operators, and w is the claimed minimum-weight logical. Unused rows are +I.
+// The code that a sheet describes: n qubits, r generators, claimed distance d. The first r rows of g are the
+// generators, the first n - r of x and of z the logical operators, and w is the claimed minimum-weight logical. Unused
+// rows are +I.
 pub struct Code {
     pub n: usize,
     pub r: usize,
@@ -191,7 +192,8 @@ fn is_identity(p: Pauli) -> bool
     p.p % 4 == 0 && (p.a == 0 && p.b == 0)
 }
 
-// The three kinds of rows, each with its array in the record and its key in the sheet. A refusal about a row names its kind.
+// The three kinds of rows, each with its array in the record and its key in the sheet. A refusal about a row names its
+// kind.
 pub enum Family {
     Generator,
     LogicalX,
