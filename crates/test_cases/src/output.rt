@@ -1,0 +1,75 @@
+// Answers on standard output.
+use libc::STDOUT_FILENO;
+use sheet::Family;
+use sheet::Refusal;
+use sheet::Written;
+ghost use mathlib.Core.Path.{_≡_};
+ghost use Prim.Native.Nat.{_≤_};
+ghost use lib.ListN.{length, replicate};
+ghost use Rattle.test_cases.specs.Cases.{dot, shown};
+
+pub fn print(text: &[u8]) {
+    io::write_all(STDOUT_FILENO, text);
+}
+
+// Behind a space.
+pub fn print_number(number: usize) {
+    print(b" ");
+    io::print_decimal(STDOUT_FILENO, number as u64);
+}
+
+// The number, the line, and the family where there is one.
+pub fn print_refusal(refusal: Refusal) {
+    print(b" r=");
+    io::print_decimal(STDOUT_FILENO, refusal.number() as u64);
+    print(b" at=");
+    io::print_decimal(STDOUT_FILENO, refusal.line() as u64);
+    match refusal {
+        Refusal::GeneratorsAnticommute(_, family) => print_family(family),
+        Refusal::MinusIdentity(_, family) => print_family(family),
+        Refusal::DependentGenerator(_, family) => print_family(family),
+        Refusal::LogicalAnticommutes(_, family) => print_family(family),
+        Refusal::LogicalPairing(_, family) => print_family(family),
+        _ => {}
+    }
+}
+
+fn print_family(family: Family) {
+    print(b" of=");
+    print(&[family.key()]);
+}
+
+pub fn print_written(written: Written) {
+    match written {
+        Written::Count(count) => print_number(count),
+        Written::Refused(refusal) => print_refusal(refusal),
+    }
+    print(b"\n");
+}
+
+// Bytes for a writer to write into. They are dots, so that it can be seen what was written.
+pub fn dots() -> [u8; 1360]
+    ensures { λ r. ⌜ r ≡ replicate 1360 dot ⌝ }
+{
+    [b'.'; 1360]
+}
+
+// The bytes up to the last that is no dot, and how many dots follow.
+pub fn print_buffer(buffer: &[u8]) {
+    let end = shown_len(buffer);
+    print(&buffer[0..end]);
+    print_number(buffer.len() - end);
+    print(b"\n");
+}
+
+// How many bytes there are up to the last that is no dot.
+fn shown_len(buffer: &[u8]) -> usize
+    ensures { λ r. ⌜ r ≡ shown (now (buffer .entry)) ⌝ }
+    ensures { λ r. ⌜ r ≤ length (now (buffer .entry)) ⌝ }
+{
+    let mut end = buffer.len();
+    while 0 < end && buffer[end - 1] == b'.' {
+        end -= 1;
+    }
+    end
+}
