@@ -33,14 +33,19 @@ pub struct Row {
 }
 
 impl Row {
-    pub(crate) fn text(&self) -> Vec<u8> {
+    pub fn text(&self) -> Vec<u8> {
         let sign = if self.minus { b'-' } else { b'+' };
         [vec![sign], letters_text(&self.letters)].concat()
     }
 }
 
-fn letters_text(letters: &[Letter]) -> Vec<u8> {
+pub fn letters_text(letters: &[Letter]) -> Vec<u8> {
     letters.iter().map(|l| l.byte()).collect()
+}
+
+/// How many letters are not I.
+pub fn weight(letters: &[Letter]) -> usize {
+    letters.iter().filter(|&&l| l != Letter::I).count()
 }
 
 /// What 01's table of refusals has in every line: the number, and the line named (0 where none is). 6 to 10 are about a row, and have the
@@ -54,7 +59,7 @@ pub struct Refusal {
 
 impl Refusal {
     /// A refusal that has no family.
-    pub(crate) fn new(number: u32, line: usize) -> Refusal {
+    pub fn new(number: u32, line: usize) -> Refusal {
         let family = None;
         Refusal {
             number,
@@ -94,7 +99,7 @@ impl Sheet {
     }
 }
 
-pub(crate) fn line(key: &str, value: &[u8]) -> Vec<u8> {
+pub fn line(key: &str, value: &[u8]) -> Vec<u8> {
     [key.as_bytes(), value, b"\n"].concat()
 }
 
@@ -204,7 +209,7 @@ fn one_or_two_digits(value: &[u8]) -> Option<usize> {
     }
 }
 
-pub(crate) fn row(value: &[u8], n: usize) -> Option<Row> {
+pub fn row(value: &[u8], n: usize) -> Option<Row> {
     let (sign, rest) = value.split_first()?;
     let minus = match sign {
         b'+' => false,

@@ -1,8 +1,8 @@
 // Changes of a record, so that a call gets records that no sheet has.
-use pauli::Pauli;
 use crate::row::above;
 use crate::row::turned;
 use crate::row::with_bits;
+use pauli::Pauli;
 use sheet::Code;
 use sheet::Family;
 
