@@ -14,7 +14,8 @@ pub fn answer(case: &Case) -> Vec<u8> {
     }
 }
 
-/// The product of the rows of a line, whether the last commutes with the product of those before it, and the product's weight.
+/// The product of the rows of a line, whether the last commutes with the product of those before it, and the
+/// product's weight.
 fn products(line: &[u8]) -> Vec<u8> {
     let Some(rows) = rows_of_one_length(line) else {
         return b"not rows\n".to_vec();
@@ -43,8 +44,9 @@ fn rows_of_one_length(line: &[u8]) -> Option<Vec<Row>> {
     words.into_iter().map(|word| sheet::row(word, n)).collect()
 }
 
-/// The reading of the lines; and unless they are refused and there is no change, the record beside it and what is behind the lines, the
-/// reading of a sheet by itself and the numbers of its record, and what the writer makes of the changed record.
+/// The reading of the lines; and unless they are refused and there is no change, the record beside it and what is
+/// behind the lines, the reading of a sheet by itself and the numbers of its record, and what the writer makes of the
+/// changed record.
 fn sheet(text: &[u8], change: usize) -> Vec<u8> {
     let reading = sheet::read_lines(text);
     let lines = read_line("lines", &reading);
@@ -83,7 +85,8 @@ fn numbers_of(record: &Record) -> String {
     format!("record {} {} {}\n", record.n, record.r, record.d)
 }
 
-/// The phases and masks of w, of the first row of each family, and of the last generator, or the first where there is none.
+/// The phases and masks of w, of the first row of each family, and of the last generator, or the first where there is
+/// none.
 fn some_rows(record: &Record) -> String {
     let last = record.r.saturating_sub(1);
     let Record { g, x, z, w, .. } = record;
@@ -101,8 +104,8 @@ fn shown_behind(bytes: &[u8]) -> Vec<u8> {
     [&count, bytes, b"\n"].concat()
 }
 
-/// The count of the rows or the refusal; and unless it is a refusal and there is no change, for each probe the sign of the member that
-/// it is, phase aside, and what the writer of canonical generators makes of the record.
+/// The count of the rows or the refusal; and unless it is a refusal and there is no change, for each probe the sign
+/// of the member that it is, phase aside, and what the writer of canonical generators makes of the record.
 fn group(text: &[u8], change: usize) -> Vec<u8> {
     let sheet = sheet::read_alone(text).ok();
     let mut record = sheet.as_ref().map_or(Record::EMPTY, Record::of);
@@ -122,8 +125,8 @@ fn group(text: &[u8], change: usize) -> Vec<u8> {
     [count.into(), probes.into(), written].concat()
 }
 
-/// The letters of the x rows, of the z rows, of w, of w with another phase, and of w with a bit above qubit n in either mask, which has
-/// no letters and is in no group. A refused reading has but the last four.
+/// The letters of the x rows, of the z rows, of w, of w with another phase, and of w with a bit above qubit n in
+/// either mask, which has no letters and is in no group. A refused reading has but the last four.
 fn probes(sheet: Option<Sheet>) -> Vec<Option<Vec<Letter>>> {
     let Some(sheet) = sheet else {
         return vec![None; 4];
@@ -155,8 +158,8 @@ fn written_thrice(used: usize, write: impl Fn(&mut [u8]) -> Result<usize, Refusa
     rooms.into_iter().flat_map(written).collect()
 }
 
-/// What a writer answers, and its buffer of so many bytes. They are dots before, so that it can be seen what was written: up to the last
-/// byte that is no dot, and how many dots follow.
+/// What a writer answers, and its buffer of so many bytes. They are dots before, so that it can be seen what was
+/// written: up to the last byte that is no dot, and how many dots follow.
 fn written(
     name: &str,
     room: usize,

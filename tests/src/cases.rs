@@ -1,7 +1,7 @@
 //! The cases that the test program is given.
 //!
-//! A case is a letter (its kind), two digits (the number of a change), a space, five digits (the count of bytes of the text), a line
-//! feed, and the text.
+//! A case is a letter (its kind), two digits (the number of a change), a space, five digits (the count of bytes of
+//! the text), a line feed, and the text.
 
 const HEADER: usize = 10;
 

@@ -26,14 +26,15 @@ pub fn compare(program: &Path) -> ExitCode {
     ExitCode::from(u8::from(failed > 0))
 }
 
-/// How many of the cases differ, each run by itself; all of them where none does, since run together they do. Shows some.
+/// How many of the cases differ, each run by itself; all of them where none does, since run together they do. Shows
+/// some.
 fn differing(program: &Path, cases: &[Case], shown: usize) -> usize {
     let differences: Vec<(&Case, Output)> = cases
         .iter()
         .filter_map(|case| Some((case, answers_differ(program, slice::from_ref(case))?)))
         .collect();
     for (case, output) in differences.iter().take(shown) {
-        println!("--- the case\n{}", case.bytes().escape_ascii());
+        println!("--- the case\n{}", text(&case.bytes()));
         println!("--- has to be answered\n{}", text(&answer(case)));
         println!(
             "--- and is answered ({})\n{}",
@@ -53,8 +54,9 @@ fn differing(program: &Path, cases: &[Case], shown: usize) -> usize {
     }
 }
 
+/// Its lines, with the bytes escaped that cannot be seen.
 fn text(bytes: &[u8]) -> String {
-    String::from_utf8_lossy(bytes).into_owned()
+    bytes.escape_ascii().to_string().replace("\\n", "\n")
 }
 
 /// What the program gives, where that is not the answers to the cases.

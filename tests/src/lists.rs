@@ -5,13 +5,15 @@ use crate::random::Random;
 use crate::samples::any_row;
 use crate::sheet::{weight, Letter, Row, Sheet};
 
-/// As many rows as there are qubits, which commute and do not depend on one another: Z on each qubit, turned many times.
+/// As many rows as there are qubits, which commute and do not depend on one another: Z on each qubit, turned many
+/// times.
 pub fn commuting(random: &mut Random, n: usize) -> Vec<Row> {
     let rows = on_each_qubit(random, n, Letter::Z);
     turned_many_times(random, n, rows)
 }
 
-/// A sheet with r generators that passes the checks 6 to 10: Z on each qubit, and X on those behind the first r, turned many times.
+/// A sheet with r generators that passes the checks 6 to 10: Z on each qubit, and X on those behind the first r,
+/// turned many times.
 pub fn code(random: &mut Random, n: usize, r: usize) -> Sheet {
     let mut rows = on_each_qubit(random, n, Letter::Z);
     rows.extend(on_each_qubit(random, n, Letter::X).split_off(r));
@@ -61,8 +63,8 @@ fn light_row(random: &mut Random, n: usize) -> Row {
     Row { minus, letters }
 }
 
-/// A quarter turn about a row P takes Q to i P Q where they anticommute, and leaves it where they commute. As a conjugation it keeps
-/// products, so turned rows commute, and depend on one another, as they did before.
+/// A quarter turn about a row P takes Q to i P Q where they anticommute, and leaves it where they commute. As a
+/// conjugation it keeps products, so turned rows commute, and depend on one another, as they did before.
 fn turned(row: &Row, about: &Row) -> Row {
     if commute(row, about) {
         return row.clone();

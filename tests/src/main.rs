@@ -1,10 +1,10 @@
-//! Document 01 once more, written from the document alone: the test program `test_calls` is compared with it. Clarity goes before
-//! speed. A row is a sign and a list of letters, and only the record, as a caller hands it over, has masks and phases: they come from
-//! the letters one by one, so that a mistake about them is not made here as well.
+//! Document 01 once more, written from the document alone: the test program `test_calls` is compared with it. Clarity
+//! goes before speed. A row is a sign and a list of letters, and only the record, as a caller hands it over, has
+//! masks and phases: they come from the letters one by one, so that a mistake about them is not made here as well.
 //!
-//! `independent cases` writes a selection of the cases, and `independent answers` reads cases and writes an answer for each: these two
-//! make crates/test_calls/stdin and crates/test_calls/stdout. `independent compare PROGRAM` runs the program on all cases and compares
-//! its answers.
+//! `independent cases` writes a selection of the cases, and `independent answers` reads cases and writes an answer
+//! for each: these two make crates/test_calls/stdin and crates/test_calls/stdout. `independent compare PROGRAM` runs
+//! the program on all cases and compares its answers.
 
 mod answers;
 mod cases;

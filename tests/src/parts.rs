@@ -54,7 +54,8 @@ pub fn selection() -> Vec<Case> {
     once(cases)
 }
 
-/// Every case, each once; and where a sheet has no change, a case with one too, which shows all of an answer that else ends with a refusal.
+/// Every case, each once; and where a sheet has no change, a case with one too, which shows all of an answer that
+/// else ends with a refusal.
 pub fn all() -> Vec<Case> {
     let mut random = Random(0x5eed_0009_2010);
     let cases = parts().into_iter().flat_map(|part| part.cases);
@@ -79,9 +80,14 @@ fn once(cases: Vec<Case>) -> Vec<Case> {
     cases.into_iter().filter(is_new).collect()
 }
 
+fn unchanged<T: Into<Vec<u8>>>(kind: Kind, texts: impl IntoIterator<Item = T>) -> Vec<Case> {
+    let case = |text: T| Case::of(kind, text);
+    texts.into_iter().map(case).collect()
+}
+
 /// Each of the texts with each of the changes.
-fn each_change(kind: Kind, texts: &[Vec<u8>]) -> Vec<Case> {
-    let cases = texts.iter().map(|text| Case::of(kind, text.clone()));
+fn each_change<T: Into<Vec<u8>>>(kind: Kind, texts: impl IntoIterator<Item = T>) -> Vec<Case> {
+    let cases = unchanged(kind, texts).into_iter();
     let changed = |case: Case| (1..=LAST_CHANGE).map(move |change| case.changed(change));
     cases.flat_map(changed).collect()
 }

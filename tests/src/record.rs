@@ -1,5 +1,5 @@
-//! The code record: numbers and Paulis with masks, as a caller hands it over. Its limits are those under which it has a sheet, so it is
-//! looked at qubit by qubit and turned into one.
+//! The code record: numbers and Paulis with masks, as a caller hands it over. Its limits are those under which it has
+//! a sheet, so it is looked at qubit by qubit and turned into one.
 
 use crate::group;
 use crate::sheet::{Letter, Refusal, Row, Sheet};
@@ -75,7 +75,8 @@ impl Record {
         })
     }
 
-    /// Changes the record so that no sheet has it. Rows count from 0 here, so the first generator that is not used is `g[r]`.
+    /// Changes the record so that no sheet has it. Rows count from 0 here, so the first generator that is not used is
+    /// `g[r]`.
     pub fn change(&mut self, number: usize) {
         let (n, r) = (self.n, self.r);
         match number {
@@ -125,7 +126,8 @@ impl Record {
         self.sheet().ok_or(Refusal::new(15, 0))
     }
 
-    /// Writes the sheet to the front of a buffer and gives its count of bytes; a refusal, 15 before 17, leaves the buffer as it is.
+    /// Writes the sheet to the front of a buffer and gives its count of bytes; a refusal, 15 before 17, leaves the
+    /// buffer as it is.
     pub fn write(&self, out: &mut [u8]) -> Result<usize, Refusal> {
         put(&self.within_limits()?.text(), out)
     }
@@ -179,7 +181,8 @@ impl Pauli {
         pauli
     }
 
-    /// The signed row on n qubits that this is, or none where a bit stands above qubit n or the phase is that of no sign.
+    /// The signed row on n qubits that this is, or none where a bit stands above qubit n or the phase is that of no
+    /// sign.
     fn row(&self, n: usize) -> Option<Row> {
         let at = |qubit: usize| (self.a >> qubit & 1, self.b >> qubit & 1);
         if (n..32).any(|qubit| at(qubit) != (0, 0)) {
@@ -229,7 +232,7 @@ mod tests {
 
     #[test]
     fn a_record_keeps_its_sheet() {
-        for text in samples::all() {
+        for text in [samples::published(), samples::repetitions()].concat() {
             let sheet = read_alone(text.as_bytes()).unwrap();
             assert_eq!(Record::of(&sheet).sheet(), Some(sheet));
         }

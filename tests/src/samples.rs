@@ -170,12 +170,9 @@ pub fn published() -> Vec<String> {
     sheets
 }
 
-/// The same, and repetition codes of every n.
-#[cfg(test)]
-pub fn all() -> Vec<String> {
-    let mut sheets = published();
-    sheets.extend((2..=24).map(repetition));
-    sheets
+/// The repetition codes of every n.
+pub fn repetitions() -> Vec<String> {
+    (2..=24).map(repetition).collect()
 }
 
 /// The repetition code: ZZ on each pair of neighbours. Of two qubits it is K.

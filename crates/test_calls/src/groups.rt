@@ -1,7 +1,8 @@
-// What is computed of the group of a sheet's generators. The record that is read is changed. The answer has what the elimination says, and
-// where it refuses a record that is as it was read, nothing more. Else it goes on with the sign of the member with each probe's masks, and
-// the canonical generators are written into buffers about as long as their lines. The probes are the x rows, the z rows, w, w with
-// another phase, and w with a bit above qubit n in either mask.
+// What is computed of the group of a sheet's generators. The record that is read is changed. The answer has what the
+// elimination says, and where it refuses a record that is as it was read, nothing more. Else it goes on with the sign
+// of the member with each probe's masks, and the canonical generators are written into buffers about as long as their
+// lines. The probes are the x rows, the z rows, w, w with another phase, and w with a bit above qubit n in either
+// mask.
 use crate::written::Writer;
 use crate::written::write_thrice;
 use elimination::Checked;
@@ -36,7 +37,8 @@ pub fn answer_group(text: &[u8], change: usize) {
     write_thrice(Writer::Canonical, changed, lines_length(n, r));
 }
 
-// How many bytes the lines of r rows of n letters have. In a record that was read both are small, and the remainders change nothing.
+// How many bytes the lines of r rows of n letters have. In a record that was read both are small, and the remainders
+// change nothing.
 fn lines_length(n: usize, r: usize) -> usize
     ensures { λ length. ⌜ length ≤ 1085 ⌝ }
 {

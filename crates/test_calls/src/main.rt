@@ -1,6 +1,6 @@
-// Runs the calls that are proved, so that they can be compared with an implementation that shares nothing with them. Standard input is a
-// run of cases, each of one kind: "p" for products of rows, "s" for a sheet that is read and written back, "g" for the group of a sheet's
-// generators.
+// Runs the calls that are proved, so that they can be compared with an implementation that shares nothing with them.
+// Standard input is a run of cases, each of one kind: "p" for products of rows, "s" for a sheet that is read and
+// written back, "g" for the group of a sheet's generators.
 mod groups;
 mod products;
 mod sheets;

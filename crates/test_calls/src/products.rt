@@ -1,6 +1,7 @@
-// Multiplies signed rows. The text is a line: one or more rows of one length with a space between them, as "+XX +ZZ", and a line feed. The
-// answer is the product of the rows from left to right, whether the last row commutes with the product of those before it, and the
-// product's weight: "-YY commutes 2". A line with anything else is answered "not rows".
+// Multiplies signed rows. The text is a line: one or more rows of one length with a space between them, as "+XX +ZZ",
+// and a line feed. The answer is the product of the rows from left to right, whether the last row commutes with the
+// product of those before it, and the product's weight: "-YY commutes 2". A line with anything else is answered "not
+// rows".
 use pauli::Letter;
 use pauli::LetterRead;
 use pauli::Pauli;

@@ -1,6 +1,7 @@
-// Reads a sheet and writes it back. The answer has what the reader of the lines says, and where they are refused and the record is not to be
-// changed, nothing more. Else it goes on with numbers and rows of the record, what is behind the lines, and what the reader of a sheet by
-// itself says; then the record is changed, and written into buffers about as long as the lines.
+// Reads a sheet and writes it back. The answer has what the reader of the lines says, and where they are refused and
+// the record is not to be changed, nothing more. Else it goes on with numbers and rows of the record, what is behind
+// the lines, and what the reader of a sheet by itself says; then the record is changed, and written into buffers
+// about as long as the lines.
 use crate::written::Writer;
 use crate::written::write_thrice;
 use pauli::Pauli;
@@ -72,7 +73,8 @@ fn print_numbers(code: Code) {
     print(b"\n");
 }
 
-// The phases and masks of w, of the first row of each family, and of the last generator, or the first where there is none.
+// The phases and masks of w, of the first row of each family, and of the last generator, or the first where there is
+// none.
 fn print_rows(code: Code) {
     print(b"rows");
     print_row(code.w);

@@ -13,8 +13,9 @@ pub enum Writer {
     Canonical,
 }
 
-// Writes with a byte less than the lines take, with as many, and with three more. No lines take more than the 1,352 bytes of the longest
-// sheet, so the test never holds; it says to the proof that three more are within the 1,360 bytes that there are.
+// Writes with a byte less than the lines take, with as many, and with three more. No lines take more than the 1,352
+// bytes of the longest sheet, so the test never holds; it says to the proof that three more are within the 1,360
+// bytes that there are.
 pub fn write_thrice(writer: Writer, code: Code, used: usize) {
     if 1357 < used {
         return;

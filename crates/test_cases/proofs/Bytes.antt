@@ -1,5 +1,5 @@
--- One byte more at the end: what digits say, and how many bytes are shown. Both are folds, so the byte goes in by the law of a
--- fold over an append.
+-- One byte more at the end: what digits say, and how many bytes are shown. Both are folds, so the byte goes in by the
+-- law of a fold over an append.
 use mathlib.Core.Bool.{true, false}
 use mathlib.Core.List.{List, [], _∷_, _++_, foldr, foldl-append, foldr-append}
 use mathlib.Core.Path.{_≡_, refl, ap, _∙_}
@@ -36,4 +36,6 @@ module _ (s : List ℕ) (end : ℕ) (some-byte : 0 < end) (within : end ≤ leng
 
   pub shown-to-other : eqb (getD s (end - 1) 0) dot ≡ false → shown (take end s) ≡ end
   unfolding shown counted
-  shown-to-other e = rw (last-taken, foldr-append, e, all-before) (omega (arith, length-take-le (end - 1) s (omega arith)))
+  shown-to-other e =
+      let whole = length-take-le (end - 1) s (omega arith) in
+      rw (last-taken, foldr-append, e, all-before) (omega (arith, whole))

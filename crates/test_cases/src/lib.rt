@@ -1,7 +1,8 @@
-// What the test program is given and what it prints: reading the next case, printing an answer, and changes of a row and of a record.
-// Standard input is a run of cases: a byte, the kind; two digits, the number of a change; a space; five digits, how many bytes follow; a
-// line feed; and those bytes, a text. No contract says what comes from standard input or goes to standard output: the language has no
-// name for either. So a function that prints says nothing but that it returns.
+// What the test program is given and what it prints: reading the next case, printing an answer, and changes of a row
+// and of a record. Standard input is a run of cases: a byte, the kind; two digits, the number of a change; a space;
+// five digits, how many bytes follow; a line feed; and those bytes, a text. No contract says what comes from standard
+// input or goes to standard output: the language has no name for either. So a function that prints says nothing but
+// that it returns.
 mod output;
 mod record;
 mod row;

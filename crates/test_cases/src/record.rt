@@ -6,8 +6,9 @@ use pauli::Pauli;
 use sheet::Code;
 use sheet::Family;
 
-// The record with one thing changed, by the number of the change: n, r or d up to 10, w up to 13, every phase with 14, then a generator, and
-// from 23 on a logical row. In a record that was read n and d are small, and the remainders change nothing.
+// The record with one thing changed, by the number of the change: n, r or d up to 10, w up to 13, every phase with
+// 14, then a generator, and from 23 on a logical row. In a record that was read n and d are small, and the remainders
+// change nothing.
 pub fn changed(code: Code, change: usize) -> Code {
     let mut c = code;
     let w = code.w;

@@ -4,7 +4,8 @@ ghost use mathlib.Core.Path.{_≡_};
 ghost use Prim.Native.Nat.{_%_, _^_};
 ghost use Rattle.test_cases.specs.Rows.{turnedRow, withBits};
 
-// The row with i to the power of so many more. The remainder keeps the sum within 32 bits, and from 0xFFFF_FFFD on it is another power.
+// The row with i to the power of so many more. The remainder keeps the sum within 32 bits, and from 0xFFFF_FFFD on it
+// is another power.
 pub fn turned(row: Pauli, more: u32) -> Pauli
     ensures { λ r. ⌜ r ≡ turnedRow row more ⌝ }
 {

@@ -1,6 +1,6 @@
 //! Lists of rows as the generators of a sheet, whose other rows are probes for membership.
 
-use super::{each_change, Part};
+use super::{each_change, unchanged, Part};
 use crate::cases::{Case, Kind};
 use crate::lists;
 use crate::random::Random;
@@ -29,34 +29,33 @@ z=-YYI
 w=YYI
 ";
 
+const TO_BE_CHANGED: [&str; 7] = [A, I, K, CLASH, TABLE_3_3, MINUS_I, ""];
+
 pub fn parts() -> Vec<Part> {
     let mut random = Random(0x5eed_0006_2009);
-    let published = samples::published();
-    let repetitions: Vec<String> = (2..=24).map(samples::repetition).collect();
-    let changed = [A, I, K, CLASH, TABLE_3_3, MINUS_I, ""].map(|text| text.into());
+    let (published, repetitions) = (samples::published(), samples::repetitions());
     vec![
-        Part::kept(cases(published.iter().map(|text| text.clone().into()))),
-        Part::kept(cases([YY.into(), MINUS_I.into()])),
-        Part::sampled(6, probed(&mut random, &published)),
-        Part::sampled(2, cases(repetitions.iter().map(|text| text.clone().into()))),
-        Part::sampled(2, probed(&mut random, &repetitions)),
-        Part::sampled(24, each_change(Kind::Group, &changed)),
-        Part::sampled(24, cases(generated(&mut random))),
+        Part::kept(texts([YY, MINUS_I])),
+        Part::sampled(6, texts(probed(&mut random, &published))),
+        Part::kept(texts(published)),
+        Part::sampled(2, texts(probed(&mut random, &repetitions))),
+        Part::sampled(2, texts(repetitions)),
+        Part::sampled(24, each_change(Kind::Group, TO_BE_CHANGED)),
+        Part::sampled(24, texts(generated(&mut random))),
     ]
 }
 
-fn cases(texts: impl IntoIterator<Item = Vec<u8>>) -> Vec<Case> {
-    let case = |text| Case::of(Kind::Group, text);
-    texts.into_iter().map(case).collect()
+fn texts<T: Into<Vec<u8>>>(texts: impl IntoIterator<Item = T>) -> Vec<Case> {
+    unchanged(Kind::Group, texts)
 }
 
 /// The sheets with probes in place of their logical operators.
-fn probed(random: &mut Random, texts: &[String]) -> Vec<Case> {
-    let probed = texts.iter().map(|text| {
+fn probed(random: &mut Random, texts: &[String]) -> Vec<Vec<u8>> {
+    let probed = |text: &String| {
         let sheet = sheet::read_alone(text.as_bytes()).expect("a sheet");
         with_probes(random, &sheet.generators, &sheet.xs).text()
-    });
-    cases(probed)
+    };
+    texts.iter().map(probed).collect()
 }
 
 /// Every n, several times.
@@ -66,8 +65,9 @@ fn generated(random: &mut Random) -> Vec<Vec<u8>> {
     sheets.map(|sheet| sheet.text()).collect()
 }
 
-/// Lists of rows on n qubits, each as the generators of a sheet: as few and as many rows as there can be, and some; rows that depend on
-/// others, with both signs; I and minus I; rows that clash, and those behind rows that depend on others; any rows.
+/// Lists of rows on n qubits, each as the generators of a sheet: as few and as many rows as there can be, and some;
+/// rows that depend on others, with both signs; I and minus I; rows that clash, and those behind rows that depend on
+/// others; any rows.
 fn lists_of_rows(random: &mut Random, n: usize) -> Vec<Sheet> {
     let mut sheets = Vec::new();
     for r in [1, n - 1] {
@@ -137,8 +137,8 @@ fn with_probes(random: &mut Random, generators: &[Row], others: &[Row]) -> Sheet
     }
 }
 
-/// A row with the letters of a member more often than not; of a member with one letter changed; of a member times one of the others; of I;
-/// or any letters. Its sign is the member's or the other one.
+/// A row with the letters of a member more often than not; of a member with one letter changed; of a member times one
+/// of the others; of I; or any letters. Its sign is the member's or the other one.
 fn probe(random: &mut Random, generators: &[Row], others: &[Row]) -> Row {
     let n = generators[0].letters.len();
     let mut product = lists::some_product(random, n, generators);

@@ -1,6 +1,6 @@
 //! Lines of signed rows, to be multiplied.
 
-use super::Part;
+use super::{unchanged, Part};
 use crate::cases::{Case, Kind};
 use crate::random::Random;
 use crate::samples::any_row;
@@ -9,21 +9,21 @@ use crate::sheet::{Letter, Row};
 pub fn parts() -> Vec<Part> {
     let mut random = Random(0x5eed_0f9a_1115);
     vec![
-        Part::kept(cases(lists(&one_letter(&[false, true]), 2))),
-        Part::sampled(8, cases(lists(&one_letter(&[false]), 3))),
-        Part::sampled(16, cases(lists(&two_letters(), 2))),
-        Part::sampled(32, cases(every_width(&mut random))),
+        Part::kept(lines(lists(&one_letter(&[false, true]), 2))),
+        Part::sampled(8, lines(lists(&one_letter(&[false]), 3))),
+        Part::sampled(16, lines(lists(&two_letters(), 2))),
+        Part::sampled(32, lines(every_width(&mut random))),
         Part::kept(not_rows()),
     ]
 }
 
-fn cases(lists: Vec<Vec<Row>>) -> Vec<Case> {
+fn lines(lists: Vec<Vec<Row>>) -> Vec<Case> {
     let line = |rows: Vec<Row>| rows.iter().map(Row::text).collect::<Vec<_>>().join(&b' ');
-    lists.into_iter().map(line).map(closed).collect()
-}
-
-fn closed(line: Vec<u8>) -> Case {
-    Case::of(Kind::Products, [line, b"\n".to_vec()].concat())
+    let lines = lists.into_iter().map(line);
+    unchanged(
+        Kind::Products,
+        lines.map(|line| [&line, &b"\n"[..]].concat()),
+    )
 }
 
 fn one_letter(signs: &[bool]) -> Vec<Row> {
@@ -94,5 +94,5 @@ fn not_rows() -> Vec<Case> {
         "+X\r",
         "",
     ];
-    others.map(|line| closed(line.into())).to_vec()
+    unchanged(Kind::Products, others.map(|line| format!("{line}\n")))
 }

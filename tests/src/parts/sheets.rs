@@ -1,6 +1,6 @@
 //! Texts to be read as sheets, and changes of the records that are read.
 
-use super::{each_change, Part};
+use super::{each_change, unchanged, Part};
 use crate::cases::{Case, Kind};
 use crate::random::Random;
 use crate::samples::{self, A, K, NINE, TABLE_3_3};
@@ -14,33 +14,32 @@ const BYTES: &[u8] = b"x \r\0\xff\n0129gxzw=+-IYXZ";
 
 pub fn parts() -> Vec<Part> {
     let mut random = Random(0x5eed_0005_4ee7);
+    let changed_a = each_change(Kind::Sheet, [A]);
+    let changed = each_change(Kind::Sheet, to_be_changed(&mut random));
     vec![
-        Part::kept(cases(published())),
-        Part::kept(cases(refused_by_each_number())),
-        Part::kept(each_change(Kind::Sheet, &[A.into()])),
-        Part::kept(cases(damage::prefixes(A.as_bytes()))),
-        Part::sampled(
-            0,
-            cases((3..24).map(|n| samples::repetition(n).into()).collect()),
-        ),
-        Part::sampled(5, cases(any_form(&mut random))),
-        Part::sampled(4, cases(codes(&mut random))),
-        Part::sampled(10, each_change(Kind::Sheet, &to_be_changed(&mut random))),
-        Part::sampled(15, cases(cut(&mut random))),
-        Part::sampled(45, cases(damaged(&mut random))),
-        Part::sampled(15, cases(lines_out_of_place())),
-        Part::sampled(40, cases(misnumbered())),
-        Part::sampled(15, cases(miscounted())),
-        Part::sampled(1, cases(beyond_the_room(&mut random))),
-        Part::sampled(50, cases(misshapen())),
-        Part::sampled(10, cases(behind_w())),
-        Part::sampled(0, cases(long(&mut random))),
+        Part::kept(texts(samples::published())),
+        Part::kept(texts([2, 24].map(samples::repetition))),
+        Part::kept(texts(refused_by_each_number())),
+        Part::kept(texts(damage::prefixes(A.as_bytes()))),
+        Part::kept(changed_a),
+        Part::sampled(10, changed),
+        Part::sampled(0, texts(samples::repetitions())),
+        Part::sampled(5, texts(any_form(&mut random))),
+        Part::sampled(4, texts(codes(&mut random))),
+        Part::sampled(15, texts(cut(&mut random))),
+        Part::sampled(45, texts(damaged(&mut random))),
+        Part::sampled(15, texts(lines_out_of_place())),
+        Part::sampled(40, texts(misnumbered())),
+        Part::sampled(15, texts(miscounted())),
+        Part::sampled(1, texts(beyond_the_room(&mut random))),
+        Part::sampled(50, texts(misshapen())),
+        Part::sampled(10, texts(behind_w())),
+        Part::sampled(0, texts(long(&mut random))),
     ]
 }
 
-fn cases(texts: Texts) -> Vec<Case> {
-    let case = |text| Case::of(Kind::Sheet, text);
-    texts.into_iter().map(case).collect()
+fn texts<T: Into<Vec<u8>>>(texts: impl IntoIterator<Item = T>) -> Vec<Case> {
+    unchanged(Kind::Sheet, texts)
 }
 
 fn any_rows(random: &mut Random, n: usize, r: usize, d: usize) -> Vec<u8> {
@@ -53,43 +52,35 @@ fn any_sheet(random: &mut Random, n: usize) -> Vec<u8> {
     any_rows(random, n, r, d)
 }
 
-fn published() -> Texts {
-    let texts = samples::published().into_iter();
-    texts
-        .chain([2, 24].map(samples::repetition))
-        .map(String::into_bytes)
-        .collect()
-}
-
-/// Each number that reading a sheet can give, 1 to 5; 2 of the reading of a sheet by itself too.
-fn refused_by_each_number() -> Texts {
-    let texts = [
+/// Each number that reading a sheet can give, 1 to 5, and 2 for bytes behind w.
+fn refused_by_each_number() -> [String; 8] {
+    [
         "X".repeat(4097),
         A.replace("w=IYYIX", "w=IYYIx"),
         A.replace("n=5", "n=1"),
         A.replace("n=5", "n=25"),
         A.replace("d=3", "d=8"),
-        "n=3\nd=1\ng=+ZZI\ng=+IZZ\ng=+ZIZ\n".to_string(),
         "n=3\nd=1\n".to_string(),
+        "n=3\nd=1\ng=+ZZI\ng=+IZZ\ng=+ZIZ\n".to_string(),
         A.to_string() + "s=0001\ns=1010\n",
-    ];
-    texts.map(String::into_bytes).to_vec()
+    ]
 }
 
-/// Every n, with every count of generators; every d.
+/// Every n with every r.
+fn sizes() -> impl Iterator<Item = (usize, usize)> {
+    (2..=24).flat_map(|n| (1..n).map(move |r| (n, r)))
+}
+
+/// Every size, and every d.
 fn any_form(random: &mut Random) -> Texts {
-    let sizes = (2..=24).flat_map(|n| (1..n).map(move |r| (n, r)));
-    sizes
-        .map(|(n, r)| any_rows(random, n, r, 1 + (n + r) % 7))
-        .collect()
+    let text = |(n, r)| any_rows(random, n, r, 1 + (n + r) % 7);
+    sizes().map(text).collect()
 }
 
-/// The same, with rows that pass the checks 6 to 10.
+/// Every size, with rows that pass the checks 6 to 10.
 fn codes(random: &mut Random) -> Texts {
-    let sizes = (2..=24).flat_map(|n| (1..n).map(move |r| (n, r)));
-    sizes
-        .map(|(n, r)| lists::code(random, n, r).text())
-        .collect()
+    let text = |(n, r)| lists::code(random, n, r).text();
+    sizes().map(text).collect()
 }
 
 /// Records of several sizes, the smallest and the longest among them, and the record beside a refused reading.
@@ -111,17 +102,17 @@ fn to_be_changed(random: &mut Random) -> Texts {
     texts
 }
 
-/// Sheets of every size up to each byte.
+/// Sheets of every size, the longest among them, up to each byte.
 fn cut(random: &mut Random) -> Texts {
     let mut texts: Texts = (2..=24).map(|n| any_sheet(random, n)).collect();
+    texts.push(any_rows(random, 24, 1, 7));
     texts.extend([K, NINE, TABLE_3_3].map(|text| text.as_bytes().to_vec()));
-    texts
-        .iter()
-        .flat_map(|text| damage::prefixes(text))
-        .collect()
+    let cut = |text: &Vec<u8>| damage::prefixes(text);
+    texts.iter().flat_map(cut).collect()
 }
 
-/// K, the shortest sheet there is, and A, with each byte damaged in each of these ways; other sheets with some byte damaged.
+/// K, the shortest sheet there is, and A, with each byte damaged in each of these ways; other sheets with some byte
+/// damaged.
 fn damaged(random: &mut Random) -> Texts {
     let mut texts = Texts::new();
     for text in [K, A].map(str::as_bytes) {
@@ -197,7 +188,8 @@ fn miscounted() -> Texts {
     texts
 }
 
-/// Twenty-four qubits, as many as there may be, with a line too many of each family, and with more letters than a mask has bits.
+/// Twenty-four qubits, as many as there may be, with a line too many of each family, and with more letters than a
+/// mask has bits.
 fn beyond_the_room(random: &mut Random) -> Texts {
     let mut many_g = samples::any_rows(random, 24, 23, 5);
     many_g.generators.push(many_g.generators[0].clone());
@@ -215,8 +207,8 @@ fn beyond_the_room(random: &mut Random) -> Texts {
         .to_vec()
 }
 
-/// The first lines of a sheet of three qubits, then a line with each key in many forms. The form may be right and the key wrong, too:
-/// among them are `g=` after the last g line there can be and a lone `g` where the input ends.
+/// The first lines of a sheet of three qubits, then a line with each key in many forms. The form may be right and the
+/// key wrong, too: among them are `g=` after the last g line there can be and a lone `g` where the input ends.
 fn misshapen() -> Texts {
     const FORMS: [&str; 25] = [
         "?",

@@ -24,7 +24,8 @@ loop-again : tie.Need-loop-again Inv-loop μ-loop
 loop-again c =
     let at = c .before .before in
     let s = at .before .args .digits .now in
-    (search needs, ap (λ m. (m * 10 + getD s (at .loop .i) 0 % 16) % 1000000) (at .loop .inv .1) ∙ said-more s (at .loop .i) (search needs))
+    let i = at .loop .i in
+    (search needs, ap (λ m. (m * 10 + getD s i 0 % 16) % 1000000) (at .loop .inv .1) ∙ said-more s i (search needs))
 
 returns : tie.Need-returns Inv-loop μ-loop
 returns c =

@@ -29,13 +29,15 @@ returns : tie.Need-returns Inv-loop μ-loop
 returns c =
     let at = c .before .before .before in
     let s = at .before .args .buffer .now in
-    (sym (shown-to-other s (at .loop .end) (search needs) (search needs) (c .if1 .left)) ∙ at .loop .inv .1, search needs)
+    let shown-all = shown-to-other s (at .loop .end) (search needs) (search needs) (c .if1 .left) in
+    (sym shown-all ∙ at .loop .inv .1, search needs)
 
 returns-2 : tie.Need-returns-2 Inv-loop μ-loop
 unfolding shown
 returns-2 c =
+    let s = c .before .before .args .buffer .now in
     let none-left : c .before .loop .end ≡ 0 = search needs in
-    (none-left ∙ ap (λ end. shown (take end (c .before .before .args .buffer .now))) (sym none-left) ∙ c .before .loop .inv .1, search needs)
+    (none-left ∙ ap (λ end. shown (take end s)) (sym none-left) ∙ c .before .loop .inv .1, search needs)
 
 pub shown-len-spec : {M : Type 1} → statement M
 shown-len-spec =
