@@ -5,19 +5,56 @@ ghost use mathlib.Core.Path.{_≡_};
 ghost use Prim.Native.Nat.{_≤_};
 ghost use lib.ListN.{getD};
 ghost use Rattle.pauli.specs.Product.{identity, samePauli};
-ghost use Rattle.sheet.specs.Refusals.{values};
+ghost use Rattle.sheet.specs.Refusals.{plain, ofRow, values, answeredValues};
+ghost use Rattle.sheet.specs.Record.{mostQubits, pairCount, mostGenerators, generatorsAt};
 ghost use Rattle.sheet.specs.Record.{rowsOf, roomOf, keyByte, emptyCode};
 ghost use Rattle.sheet.specs.Record.{between, onQubits, isRow, isClaim, areRows, withinLimits};
 
-// The code that a sheet describes: n qubits, r generators, claimed distance d. The first r rows of g are the generators,
-// the first n - r of x and of z the logical operators, and w is the claimed minimum-weight logical. Unused rows are +I.
+// How many generators a record has room for.
+pub const GENERATOR_ROOM: usize = 32;
+
+// How many logicals of each kind it has room for.
+pub const LOGICAL_ROOM: usize = 24;
+
+// The most qubits of a code.
+pub const MOST_QUBITS: usize = 24;
+
+// The longest distance that may be claimed.
+pub const MOST_DISTANCE: usize = 7;
+
+// The most bytes of an input, a sheet and what stands behind it.
+pub const LONGEST_INPUT: usize = 4096;
+
+// The most bytes of a sheet.
+pub const LONGEST_SHEET: usize = 1352;
+
+// The line of a sheet on which the first generator stands.
+pub const FIRST_GENERATOR_AT: usize = 3;
+
+// How many pairs of logicals a code of n qubits and r generators has.
+pub fn pair_count(n: usize, r: usize) -> usize
+    ensures { λ k. ⌜ k ≡ pairCount n r ⌝ }
+{
+    if r <= n { n - r } else { 0 }
+}
+
+// The most generators that are read of a code of n qubits.
+pub fn most_generators(n: usize) -> usize
+    ensures { λ r. ⌜ r ≡ mostGenerators n ⌝ }
+{
+    if n > 0 { n - 1 } else { 0 }
+}
+
+// The code that a sheet describes: n qubits, r generators, claimed distance d. The first r rows of g are the
+// generators, the first rows of x and of z the pairs of logical operators, and w is the claimed minimum-weight logical.
+// Unused rows are +I.
 pub struct Code {
     pub n: usize,
     pub r: usize,
     pub d: usize,
-    pub g: [Pauli; 32],
-    pub x: [Pauli; 24],
-    pub z: [Pauli; 24],
+    pub g: [Pauli; GENERATOR_ROOM],
+    pub x: [Pauli; LOGICAL_ROOM],
+    pub z: [Pauli; LOGICAL_ROOM],
     pub w: Pauli,
 }
 
@@ -31,9 +68,9 @@ impl Code {
             n: 0,
             r: 0,
             d: 0,
-            g: [one; 32],
-            x: [one; 24],
-            z: [one; 24],
+            g: [one; GENERATOR_ROOM],
+            x: [one; LOGICAL_ROOM],
+            z: [one; LOGICAL_ROOM],
             w: one,
         }
     }
@@ -44,22 +81,29 @@ impl Code {
     {
         match family {
             Family::Generator => {
-                if place < 32 {
+                if place < GENERATOR_ROOM {
                     return self.g[place];
                 }
             }
             Family::LogicalX => {
-                if place < 24 {
+                if place < LOGICAL_ROOM {
                     return self.x[place];
                 }
             }
             Family::LogicalZ => {
-                if place < 24 {
+                if place < LOGICAL_ROOM {
                     return self.z[place];
                 }
             }
         }
         Pauli::identity()
+    }
+
+    // The line of its first generator in its written sheet.
+    pub fn generators_at(self) -> usize
+        ensures { λ r. ⌜ r ≡ generatorsAt self ⌝ }
+    {
+        FIRST_GENERATOR_AT
     }
 
     // Whether the record is within its limits.
@@ -68,19 +112,19 @@ impl Code {
     {
         let n = self.n;
         let r = self.r;
-        if !between(2, 24, n) {
+        if !between(2, MOST_QUBITS, n) {
             return false;
         }
-        if !between(1, n - 1, r) {
+        if !between(1, most_generators(n), r) {
             return false;
         }
-        if !between(1, 7, self.d) {
+        if !between(1, MOST_DISTANCE, self.d) {
             return false;
         }
         if !self.are_rows(Family::Generator, r) {
             return false;
         }
-        let k = n - r;
+        let k = pair_count(n, r);
         if !self.are_rows(Family::LogicalX, k) {
             return false;
         }
@@ -92,7 +136,7 @@ impl Code {
 
     // Whether the first `count` rows of a family are rows of n qubits, and the others +I.
     fn are_rows(self, family: Family, count: usize) -> bool
-        requires { ⌜ self .n ≤ 24 ⌝ }
+        requires { ⌜ self .n ≤ mostQubits ⌝ }
         ensures { λ r. ⌜ r ≡ areRows (self .n) count (rowsOf family self) ⌝ }
     {
         let n = self.n;
@@ -121,7 +165,7 @@ fn between(low: usize, high: usize, m: usize) -> bool
 
 // Whether a Pauli has no mask bit above qubit n.
 fn on_qubits(p: Pauli, n: usize) -> bool
-    requires { ⌜ n ≤ 24 ⌝ }
+    requires { ⌜ n ≤ mostQubits ⌝ }
     ensures { λ r. ⌜ r ≡ onQubits n p ⌝ }
 {
     let end = 1u32 << n;
@@ -130,7 +174,7 @@ fn on_qubits(p: Pauli, n: usize) -> bool
 
 // Whether it is a signed row of n qubits.
 fn is_row(p: Pauli, n: usize) -> bool
-    requires { ⌜ n ≤ 24 ⌝ }
+    requires { ⌜ n ≤ mostQubits ⌝ }
     ensures { λ r. ⌜ r ≡ isRow n p ⌝ }
 {
     on_qubits(p, n) && p.is_signed_row()
@@ -138,7 +182,7 @@ fn is_row(p: Pauli, n: usize) -> bool
 
 // Whether it is a row of n qubits with sign +, as w is.
 fn is_claim(p: Pauli, n: usize) -> bool
-    requires { ⌜ n ≤ 24 ⌝ }
+    requires { ⌜ n ≤ mostQubits ⌝ }
     ensures { λ r. ⌜ r ≡ isClaim n p ⌝ }
 {
     on_qubits(p, n) && p.has_sign(Sign::Plus)
@@ -151,7 +195,8 @@ fn is_identity(p: Pauli) -> bool
     p.p % 4 == 0 && (p.a == 0 && p.b == 0)
 }
 
-// The three kinds of rows, each with its array in the record and its key in the sheet. A refusal about a row names its kind.
+// The three kinds of rows, each with its array in the record and its key in the sheet. A refusal about a row names its
+// kind.
 pub enum Family {
     Generator,
     LogicalX,
@@ -175,9 +220,9 @@ impl Family {
         ensures { λ r. ⌜ r ≡ roomOf self ⌝ }
     {
         match self {
-            Family::Generator => 32,
-            Family::LogicalX => 24,
-            Family::LogicalZ => 24,
+            Family::Generator => GENERATOR_ROOM,
+            Family::LogicalX => LOGICAL_ROOM,
+            Family::LogicalZ => LOGICAL_ROOM,
         }
     }
 }
@@ -189,7 +234,7 @@ pub struct ErrorPair {
     pub f: Pauli,
 }
 
-// Document 01's refusals in the order of their numbers, 1 to 17. A case that names a line of the sheet holds it, and one about a
+// The refusals in the order of their numbers, 1 to 17. A case that names a line of the sheet holds it, and one about a
 // row its family too.
 pub enum Refusal {
     // 1: the whole input has more than 4,096 bytes.
@@ -229,53 +274,65 @@ pub enum Refusal {
 }
 
 impl Refusal {
-    // Document 01's number.
-    pub fn number(self) -> u32
-        ensures { λ r. ⌜ r ≡ (values self) .number ⌝ }
+    // What it says, case by case.
+    pub fn values(self) -> RefusalValues
+        ensures { λ r. ⌜ r ≡ answeredValues (values self) ⌝ }
     {
         match self {
-            Refusal::TooLong => 1,
-            Refusal::Form(_) => 2,
-            Refusal::QubitCount(_) => 3,
-            Refusal::DistanceRange(_) => 4,
-            Refusal::GeneratorCount(_) => 5,
-            Refusal::GeneratorsAnticommute(_, _) => 6,
-            Refusal::MinusIdentity(_, _) => 7,
-            Refusal::DependentGenerator(_, _) => 8,
-            Refusal::LogicalAnticommutes(_, _) => 9,
-            Refusal::LogicalPairing(_, _) => 10,
-            Refusal::ClaimedWeight(_) => 11,
-            Refusal::ClaimedAnticommutes(_) => 12,
-            Refusal::ClaimedInGroup(_) => 13,
-            Refusal::DistanceRefuted(_, _) => 14,
-            Refusal::RecordLimits => 15,
-            Refusal::Syndrome(_) => 16,
-            Refusal::ShortBuffer => 17,
+            Refusal::TooLong => RefusalValues::plain(1, 0),
+            Refusal::Form(line) => RefusalValues::plain(2, line),
+            Refusal::QubitCount(line) => RefusalValues::plain(3, line),
+            Refusal::DistanceRange(line) => RefusalValues::plain(4, line),
+            Refusal::GeneratorCount(line) => RefusalValues::plain(5, line),
+            Refusal::GeneratorsAnticommute(line, family) => RefusalValues::of_row(6, line, family),
+            Refusal::MinusIdentity(line, family) => RefusalValues::of_row(7, line, family),
+            Refusal::DependentGenerator(line, family) => RefusalValues::of_row(8, line, family),
+            Refusal::LogicalAnticommutes(line, family) => RefusalValues::of_row(9, line, family),
+            Refusal::LogicalPairing(line, family) => RefusalValues::of_row(10, line, family),
+            Refusal::ClaimedWeight(line) => RefusalValues::plain(11, line),
+            Refusal::ClaimedAnticommutes(line) => RefusalValues::plain(12, line),
+            Refusal::ClaimedInGroup(line) => RefusalValues::plain(13, line),
+            Refusal::DistanceRefuted(line, _) => RefusalValues::plain(14, line),
+            Refusal::RecordLimits => RefusalValues::plain(15, 0),
+            Refusal::Syndrome(line) => RefusalValues::plain(16, line),
+            Refusal::ShortBuffer => RefusalValues::plain(17, 0),
+        }
+    }
+}
+
+// The kind of the row that a refusal is about, where it is about one.
+pub enum RowFamily {
+    Row(Family),
+    NoRow,
+}
+
+// What a refusal says: its number, the line named, 0 for none, and the kind of its row.
+pub struct RefusalValues {
+    pub number: u32,
+    pub line: usize,
+    pub family: RowFamily,
+}
+
+impl RefusalValues {
+    // Of a refusal that is about no row.
+    fn plain(number: u32, line: usize) -> RefusalValues
+        ensures { λ r. ⌜ r ≡ answeredValues (plain number line) ⌝ }
+    {
+        RefusalValues {
+            number,
+            line,
+            family: RowFamily::NoRow,
         }
     }
 
-    // The line named, 0 for none.
-    pub fn line(self) -> usize
-        ensures { λ r. ⌜ r ≡ (values self) .line ⌝ }
+    // Of one about a row of a family.
+    fn of_row(number: u32, line: usize, family: Family) -> RefusalValues
+        ensures { λ r. ⌜ r ≡ answeredValues (ofRow number line family) ⌝ }
     {
-        match self {
-            Refusal::TooLong => 0,
-            Refusal::Form(line) => line,
-            Refusal::QubitCount(line) => line,
-            Refusal::DistanceRange(line) => line,
-            Refusal::GeneratorCount(line) => line,
-            Refusal::GeneratorsAnticommute(line, _) => line,
-            Refusal::MinusIdentity(line, _) => line,
-            Refusal::DependentGenerator(line, _) => line,
-            Refusal::LogicalAnticommutes(line, _) => line,
-            Refusal::LogicalPairing(line, _) => line,
-            Refusal::ClaimedWeight(line) => line,
-            Refusal::ClaimedAnticommutes(line) => line,
-            Refusal::ClaimedInGroup(line) => line,
-            Refusal::DistanceRefuted(line, _) => line,
-            Refusal::RecordLimits => 0,
-            Refusal::Syndrome(line) => line,
-            Refusal::ShortBuffer => 0,
+        RefusalValues {
+            number,
+            line,
+            family: RowFamily::Row(family),
         }
     }
 }
@@ -286,11 +343,11 @@ pub enum Lines {
     Refused(Refusal),
 }
 
-// An enum holds no array, so the record stands beside the answer: all numbers 0 and all rows +I where it is a refusal. `next` is the number of
-// the line behind w, 0 where it is a refusal.
+// An enum holds no array, so the record stands beside the answer: all numbers 0 and all rows +I where it is a refusal.
+// `claim_at` is the line that w stands on, 0 where it is a refusal.
 pub struct LinesReading {
     pub answer: Lines,
-    pub next: usize,
+    pub claim_at: usize,
     pub code: Code,
 }
 
