@@ -11,6 +11,7 @@ use elimination::ReducedRows;
 use pauli::Pauli;
 use sheet::Code;
 use sheet::Family;
+use sheet::pair_count;
 use test_cases::above;
 use test_cases::changed;
 use test_cases::print;
@@ -58,10 +59,9 @@ fn print_checked(answer: Checked, count: usize) {
 // The memberships of all probes of a record that was read with n and r.
 fn print_probes(code: Code, reduced: ReducedRows, n: usize, r: usize) {
     print(b"probes");
-    if r < n {
-        print_family(code, reduced, Family::LogicalX, n - r);
-        print_family(code, reduced, Family::LogicalZ, n - r);
-    }
+    let pairs = pair_count(n, r);
+    print_family(code, reduced, Family::LogicalX, pairs);
+    print_family(code, reduced, Family::LogicalZ, pairs);
     let w = code.w;
     print_membership(code, reduced, w);
     print_membership(code, reduced, turned(w, 1));

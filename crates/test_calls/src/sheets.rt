@@ -54,15 +54,10 @@ fn print_reading(reading: LinesReading) {
         Lines::Read { used } => print_number(used),
         Lines::Refused(refusal) => print_refusal(refusal),
     }
-    let claim_at = claim_at(reading);
-    if claim_at != 0 {
-        print_number(claim_at);
+    if reading.claim_at != 0 {
+        print_number(reading.claim_at);
     }
     print(b"\n");
-}
-
-fn claim_at(reading: LinesReading) -> usize {
-    one_less(reading.next)
 }
 
 fn print_numbers(code: Code) {

@@ -1,7 +1,7 @@
 // Answers on standard output.
 use libc::STDOUT_FILENO;
-use sheet::Family;
 use sheet::Refusal;
+use sheet::RowFamily;
 use sheet::Written;
 ghost use mathlib.Core.Path.{_≡_};
 ghost use Prim.Native.Nat.{_≤_};
@@ -20,23 +20,16 @@ pub fn print_number(number: usize) {
 
 // The number, the line, and the family where there is one.
 pub fn print_refusal(refusal: Refusal) {
+    let values = refusal.values();
+    let family = values.family;
     print(b" r=");
-    io::print_decimal(STDOUT_FILENO, refusal.number() as u64);
+    io::print_decimal(STDOUT_FILENO, values.number as u64);
     print(b" at=");
-    io::print_decimal(STDOUT_FILENO, refusal.line() as u64);
-    match refusal {
-        Refusal::GeneratorsAnticommute(_, family) => print_family(family),
-        Refusal::MinusIdentity(_, family) => print_family(family),
-        Refusal::DependentGenerator(_, family) => print_family(family),
-        Refusal::LogicalAnticommutes(_, family) => print_family(family),
-        Refusal::LogicalPairing(_, family) => print_family(family),
-        _ => {}
+    io::print_decimal(STDOUT_FILENO, values.line as u64);
+    match family {
+        RowFamily::Row(family) => print(&[b' ', b'o', b'f', b'=', family.key()]),
+        RowFamily::NoRow => {}
     }
-}
-
-fn print_family(family: Family) {
-    print(b" of=");
-    print(&[family.key()]);
 }
 
 pub fn print_written(written: Written) {
@@ -47,7 +40,8 @@ pub fn print_written(written: Written) {
     print(b"\n");
 }
 
-// Bytes for a writer to write into. They are dots, so that it can be seen what was written.
+// Bytes for a writer to write into, some more than the longest sheet has. They are dots, so that it can be seen what was
+// written.
 pub fn dots() -> [u8; 1360]
     ensures { λ r. ⌜ r ≡ replicate 1360 dot ⌝ }
 {

@@ -5,6 +5,9 @@ use crate::row::with_bits;
 use pauli::Pauli;
 use sheet::Code;
 use sheet::Family;
+use sheet::GENERATOR_ROOM;
+use sheet::LOGICAL_ROOM;
+use sheet::pair_count;
 
 // The record with one thing changed, by the number of the change: n, r or d up to 10, w up to 13, every phase with
 // 14, then a generator, and from 23 on a logical row. In a record that was read n and d are small, and the remainders
@@ -45,8 +48,8 @@ fn changed_generator(code: Code, change: usize) -> Code {
         18 => with_row(code, g, 0, turned(first, 2)),
         19 => with_row(code, g, 0, turned(first, 0xFFFF_FFFC)),
         20 => with_row(code, g, code.r, Pauli { p: 0, a: 1, b: 0 }),
-        21 => with_row(code, g, 31, Pauli { p: 8, a: 0, b: 0 }),
-        22 => with_row(code, g, 31, Pauli { p: 0, a: 0, b: 1 }),
+        21 => with_row(code, g, GENERATOR_ROOM - 1, Pauli { p: 8, a: 0, b: 0 }),
+        22 => with_row(code, g, GENERATOR_ROOM - 1, Pauli { p: 0, a: 0, b: 1 }),
         _ => changed_logical(code, change),
     }
 }
@@ -56,42 +59,34 @@ fn changed_logical(code: Code, change: usize) -> Code {
     let z = Family::LogicalZ;
     let first_x = code.row(x, 0);
     let first_z = code.row(z, 0);
-    let unused = unused_logical(code.n, code.r);
+    let pairs = pair_count(code.n, code.r);
     match change {
         23 => with_row(code, x, 0, with_bits(first_x, 0x8000_0000, 0)),
         24 => with_row(code, x, 0, turned(first_x, 1)),
         25 => with_row(code, x, 0, turned(first_x, 2)),
-        26 => with_row(code, x, unused, Pauli { p: 0, a: 0, b: 1 }),
+        26 => with_row(code, x, pairs, Pauli { p: 0, a: 0, b: 1 }),
         27 => with_row(code, z, 0, with_bits(first_z, 0, 0x8000_0000)),
         28 => with_row(code, z, 0, turned(first_z, 3)),
-        29 => with_row(code, z, 23, Pauli { p: 2, a: 0, b: 0 }),
+        29 => with_row(code, z, LOGICAL_ROOM - 1, Pauli { p: 2, a: 0, b: 0 }),
         _ => code,
     }
-}
-
-// The place of the first logical row that is not used.
-fn unused_logical(n: usize, r: usize) -> usize {
-    if r < n {
-        return n - r;
-    }
-    0
 }
 
 fn with_row(code: Code, family: Family, place: usize, row: Pauli) -> Code {
     let mut c = code;
     match family {
         Family::Generator => {
-            if place < 32 {
+            if place < GENERATOR_ROOM {
                 c.g[place] = row;
             }
         }
         Family::LogicalX => {
-            if place < 24 {
+            if place < LOGICAL_ROOM {
                 c.x[place] = row;
             }
         }
         Family::LogicalZ => {
-            if place < 24 {
+            if place < LOGICAL_ROOM {
                 c.z[place] = row;
             }
         }
@@ -108,7 +103,7 @@ fn with_claim(code: Code, w: Pauli) -> Code {
 // Every phase with 4 more, which is the same phase.
 fn with_phases(code: Code) -> Code {
     let mut c = with_claim(code, turned(code.w, 4));
-    for place in 0..32 {
+    for place in 0..GENERATOR_ROOM {
         c = with_phases_at(c, place);
     }
     c
