@@ -1,4 +1,5 @@
-//! The group of the g rows: checks 6 to 8, the member with given letters, and the canonical generators, which 01 calls tidy rows.
+//! The group of the g rows: checks 6 to 8, the member with given letters, and the canonical generators, which 01
+//! calls tidy rows.
 
 use crate::product::{commute, commuting_product, product};
 use crate::sheet::{line, Letter, Refusal, Row, Sheet};
@@ -33,7 +34,8 @@ fn refusal(number: u32, row: usize) -> Refusal {
     }
 }
 
-/// The product of a selection that has these letters, where there is one. The rows commute; those that pass 6 to 8 have but one.
+/// The product of a selection that has these letters, where there is one. The rows commute; those that pass 6 to 8
+/// have but one.
 pub fn member(rows: &[Row], letters: &[Letter]) -> Option<Row> {
     if rows.len() <= FEW {
         member_of_all(rows, letters)
@@ -121,7 +123,8 @@ fn has(letters: &[Letter], column: usize) -> bool {
     }
 }
 
-/// The canonical generators of rows that pass 6 to 8, column by column: a row with a one there is taken, and the others lose theirs to it.
+/// The canonical generators of rows that pass 6 to 8, column by column: a row with a one there is taken, and the
+/// others lose theirs to it.
 pub fn canonical_generators(rows: &[Row]) -> Vec<Row> {
     let mut rows = rows.to_vec();
     let mut taken: Vec<Row> = Vec::new();
@@ -191,7 +194,7 @@ mod tests {
     #[test]
     fn published_codes_pass() {
         let tables = [TABLE_3_1, TABLE_3_3, TABLE_3_4, TABLE_3_5].map(str::to_string);
-        for text in tables.into_iter().chain((2..=24).map(samples::repetition)) {
+        for text in tables.into_iter().chain(samples::repetitions()) {
             assert!(canonical(&text).is_ok(), "{text}");
         }
         // the canonical generators of a code with rows of X and rows of Z: the X rows reduced, and then the Z rows

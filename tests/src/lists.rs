@@ -3,11 +3,47 @@
 use crate::product::{commute, product, Product};
 use crate::random::Random;
 use crate::samples::any_row;
-use crate::sheet::{Letter, Row};
+use crate::sheet::{weight, Letter, Row, Sheet};
 
-/// As many rows as there are qubits, which commute and do not depend on one another: Z on each qubit, turned many times.
+/// As many rows as there are qubits, which commute and do not depend on one another: Z on each qubit, turned many
+/// times.
 pub fn commuting(random: &mut Random, n: usize) -> Vec<Row> {
-    let mut rows: Vec<Row> = (0..n).map(|qubit| z_on(random, n, qubit)).collect();
+    let rows = on_each_qubit(random, n, Letter::Z);
+    turned_many_times(random, n, rows)
+}
+
+/// A sheet with r generators that passes the checks 6 to 10: Z on each qubit, and X on those behind the first r,
+/// turned many times.
+pub fn code(random: &mut Random, n: usize, r: usize) -> Sheet {
+    let mut rows = on_each_qubit(random, n, Letter::Z);
+    rows.extend(on_each_qubit(random, n, Letter::X).split_off(r));
+    let mut generators = turned_many_times(random, n, rows);
+    let xs = generators.split_off(n);
+    let zs = generators.split_off(r);
+    let claim = xs[0].letters.clone();
+    let d = weight(&claim).min(7);
+    Sheet {
+        n,
+        d,
+        generators,
+        xs,
+        zs,
+        claim,
+    }
+}
+
+/// For each qubit the row with this letter there, with some sign.
+fn on_each_qubit(random: &mut Random, n: usize, letter: Letter) -> Vec<Row> {
+    let row = |qubit: usize| {
+        let mut letters = vec![Letter::I; n];
+        letters[qubit] = letter;
+        let minus = random.pick(&[false, true]);
+        Row { minus, letters }
+    };
+    (0..n).map(row).collect()
+}
+
+fn turned_many_times(random: &mut Random, n: usize, mut rows: Vec<Row>) -> Vec<Row> {
     for _ in 0..1 + random.index(4 * n) {
         let about = light_row(random, n);
         for row in &mut rows {
@@ -15,13 +51,6 @@ pub fn commuting(random: &mut Random, n: usize) -> Vec<Row> {
         }
     }
     rows
-}
-
-fn z_on(random: &mut Random, n: usize, qubit: usize) -> Row {
-    let mut letters = vec![Letter::I; n];
-    letters[qubit] = Letter::Z;
-    let minus = random.pick(&[false, true]);
-    Row { minus, letters }
 }
 
 /// A row with one or two letters other than I, at most.
@@ -34,8 +63,8 @@ fn light_row(random: &mut Random, n: usize) -> Row {
     Row { minus, letters }
 }
 
-/// A quarter turn about a row P takes Q to i P Q where they anticommute, and leaves it where they commute. As a conjugation it keeps
-/// products, so turned rows commute, and depend on one another, as they did before.
+/// A quarter turn about a row P takes Q to i P Q where they anticommute, and leaves it where they commute. As a
+/// conjugation it keeps products, so turned rows commute, and depend on one another, as they did before.
 fn turned(row: &Row, about: &Row) -> Row {
     if commute(row, about) {
         return row.clone();
@@ -84,6 +113,29 @@ pub fn clashing(random: &mut Random, rows: &[Row]) -> Option<Row> {
         let row = any_row(random, one.letters.len());
         if !commute(&row, one) {
             return Some(row);
+        }
+    }
+}
+
+#[cfg(test)]
+mod tests {
+    use super::*;
+    use crate::group::check;
+
+    #[test]
+    fn codes_pass_6_to_10() {
+        let mut random = Random(7);
+        for n in 2..=24 {
+            let r = 1 + random.index(n - 1);
+            let sheet = code(&mut random, n, r);
+            let logicals: Vec<&Row> = sheet.xs.iter().chain(&sheet.zs).collect();
+            assert_eq!(check(&sheet.generators), Ok(()));
+            for (i, one) in logicals.iter().enumerate() {
+                assert!(sheet.generators.iter().all(|row| commute(row, one)));
+                for (j, other) in logicals.iter().enumerate() {
+                    assert_eq!(commute(one, other), i.abs_diff(j) != n - r);
+                }
+            }
         }
     }
 }

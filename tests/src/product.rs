@@ -1,6 +1,6 @@
 //! Products of rows, letter by letter.
 
-use crate::sheet::{Letter, Row};
+use crate::sheet::{letters_text, Letter, Row};
 
 /// i to a power, and a letter for each qubit.
 #[derive(Clone, PartialEq, Eq, Debug)]
@@ -39,6 +39,18 @@ impl Product {
         };
         let letters = self.letters;
         Some(Row { minus, letters })
+    }
+
+    /// The row with these letters and sign +.
+    pub fn plus_row(&self) -> Row {
+        let (minus, letters) = (false, self.letters.clone());
+        Row { minus, letters }
+    }
+
+    /// The power of i, then the letters.
+    pub fn text(&self) -> Vec<u8> {
+        let power = ["+", "+i", "-", "-i"][self.power as usize];
+        [power.as_bytes(), &letters_text(&self.letters)].concat()
     }
 }
 
@@ -89,6 +101,46 @@ mod tests {
         assert_eq!(product(2, [&xx, &zz, &row("-YY")]), Product::one(2));
         assert!(!commute(&row("+XII"), &row("+ZII")));
         assert_eq!(product(1, [&row("+X"), &row("-Z")]).row(), None);
+    }
+
+    /// Two by two, over the Gaussian integers: a real and an imaginary part.
+    type Matrix = [[(i32, i32); 2]; 2];
+
+    fn matrix(letter: Letter) -> Matrix {
+        let (zero, one, minus_one) = ((0, 0), (1, 0), (-1, 0));
+        let (i, minus_i) = ((0, 1), (0, -1));
+        match letter {
+            Letter::I => [[one, zero], [zero, one]],
+            Letter::X => [[zero, one], [one, zero]],
+            Letter::Y => [[zero, minus_i], [i, zero]],
+            Letter::Z => [[one, zero], [zero, minus_one]],
+        }
+    }
+
+    fn times(v: (i32, i32), w: (i32, i32)) -> (i32, i32) {
+        (v.0 * w.0 - v.1 * w.1, v.0 * w.1 + v.1 * w.0)
+    }
+
+    fn matrix_product(left: Matrix, right: Matrix) -> Matrix {
+        let entry = |row: usize, column: usize| {
+            let first = times(left[row][0], right[0][column]);
+            let second = times(left[row][1], right[1][column]);
+            (first.0 + second.0, first.1 + second.1)
+        };
+        [0, 1].map(|row| [0, 1].map(|column| entry(row, column)))
+    }
+
+    #[test]
+    fn letters_multiply_as_their_matrices_do() {
+        let powers = [(1, 0), (0, 1), (-1, 0), (0, -1)];
+        for left in Letter::ALL {
+            for right in Letter::ALL {
+                let (power, letter) = letter_product(left, right);
+                let scaled =
+                    matrix(letter).map(|row| row.map(|v| times(powers[power as usize], v)));
+                assert_eq!(matrix_product(matrix(left), matrix(right)), scaled);
+            }
+        }
     }
 
     /// Phases p + p' + 2(b·a') modulo 4 and masks a + a', b + b' bit by bit, on one qubit.

@@ -1,5 +1,5 @@
-//! The code record: numbers and Paulis with masks, as a caller hands it over. Its limits are those under which it has a sheet, so it is
-//! looked at qubit by qubit and turned into one.
+//! The code record: numbers and Paulis with masks, as a caller hands it over. Its limits are those under which it has
+//! a sheet, so it is looked at qubit by qubit and turned into one.
 
 use crate::group;
 use crate::sheet::{Letter, Refusal, Row, Sheet};
@@ -25,6 +25,12 @@ pub struct Record {
 }
 
 const PLUS_I: Pauli = Pauli { p: 0, a: 0, b: 0 };
+
+/// Changes of a record have the numbers from 1 to this.
+pub const LAST_CHANGE: usize = 29;
+
+/// Changes after which a record is the same but for phases that are read modulo 4.
+pub const SAME_MODULO_4: [usize; 3] = [14, 19, 21];
 
 impl Record {
     /// What stands beside a refused reading.
@@ -69,12 +75,59 @@ impl Record {
         })
     }
 
+    /// Changes the record so that no sheet has it. Rows count from 0 here, so the first generator that is not used is
+    /// `g[r]`.
+    pub fn change(&mut self, number: usize) {
+        let (n, r) = (self.n, self.r);
+        match number {
+            0 => {}
+            1 => self.n = 1,
+            2 => self.n = 25,
+            3 => self.n = usize::MAX,
+            4 => self.r = 0,
+            5 => self.r = n,
+            6 => self.r = n + 1,
+            7 => self.r = usize::MAX,
+            8 => self.d = 0,
+            9 => self.d = 8,
+            10 => self.d += 1,
+            11 => self.w.p += 1,
+            12 => self.w.p += 2,
+            13 => self.w.b |= 1 << n,
+            14 => self.add_4_to_each_phase(),
+            15 => self.g[0].a |= 1 << n,
+            16 => self.g[0].b |= 1 << n,
+            17 => self.g[0].p += 1,
+            18 => self.g[0].p += 2,
+            19 => self.g[0].p += u32::MAX - 3,
+            20 => self.g[r] = Pauli { p: 0, a: 1, b: 0 },
+            21 => self.g[31].p = 8,
+            22 => self.g[31].b = 1,
+            23 => self.x[0].a |= 1 << 31,
+            24 => self.x[0].p += 1,
+            25 => self.x[0].p += 2,
+            26 => self.x[n - r] = Pauli { p: 0, a: 0, b: 1 },
+            27 => self.z[0].b |= 1 << 31,
+            28 => self.z[0].p += 3,
+            29 => self.z[23] = Pauli { p: 2, a: 0, b: 0 },
+            _ => panic!("no change has the number {number}"),
+        }
+    }
+
+    fn add_4_to_each_phase(&mut self) {
+        let Record { g, x, z, w, .. } = self;
+        for pauli in g.iter_mut().chain(x).chain(z).chain([w]) {
+            pauli.p += 4;
+        }
+    }
+
     /// Check 15.
     fn within_limits(&self) -> Result<Sheet, Refusal> {
         self.sheet().ok_or(Refusal::new(15, 0))
     }
 
-    /// Writes the sheet to the front of a buffer and gives its count of bytes; a refusal, 15 before 17, leaves the buffer as it is.
+    /// Writes the sheet to the front of a buffer and gives its count of bytes; a refusal, 15 before 17, leaves the
+    /// buffer as it is.
     pub fn write(&self, out: &mut [u8]) -> Result<usize, Refusal> {
         put(&self.within_limits()?.text(), out)
     }
@@ -117,7 +170,7 @@ fn rows(paulis: &[Pauli], used: usize, n: usize) -> Option<Vec<Row>> {
 }
 
 impl Pauli {
-    pub(crate) fn of(row: &Row) -> Pauli {
+    pub fn of(row: &Row) -> Pauli {
         let mut pauli = PLUS_I;
         for (qubit, &letter) in row.letters.iter().enumerate() {
             let (a, b) = bits(letter);
@@ -128,7 +181,8 @@ impl Pauli {
         pauli
     }
 
-    /// The signed row on n qubits that this is, or none where a bit stands above qubit n or the phase is that of no sign.
+    /// The signed row on n qubits that this is, or none where a bit stands above qubit n or the phase is that of no
+    /// sign.
     fn row(&self, n: usize) -> Option<Row> {
         let at = |qubit: usize| (self.a >> qubit & 1, self.b >> qubit & 1);
         if (n..32).any(|qubit| at(qubit) != (0, 0)) {
@@ -178,7 +232,7 @@ mod tests {
 
     #[test]
     fn a_record_keeps_its_sheet() {
-        for text in samples::all() {
+        for text in [samples::published(), samples::repetitions()].concat() {
             let sheet = read_alone(text.as_bytes()).unwrap();
             assert_eq!(Record::of(&sheet).sheet(), Some(sheet));
         }
@@ -239,10 +293,11 @@ mod tests {
 
     #[test]
     fn phases_are_read_modulo_4() {
-        let mut changed = record(A);
-        changed.g[0].p += 4;
-        changed.g[31].p = 8;
-        changed.w.p += 4;
-        assert_eq!(changed.sheet(), record(A).sheet());
+        for number in SAME_MODULO_4 {
+            let mut changed = record(A);
+            changed.change(number);
+            assert_ne!(changed, record(A));
+            assert_eq!(changed.sheet(), record(A).sheet());
+        }
     }
 }

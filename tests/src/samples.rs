@@ -1,7 +1,7 @@
 //! The sheets that document 01 names, and the codes that document 000 prints (its tables 3.1 to 3.5), as text.
 
 use crate::random::Random;
-use crate::sheet::{self, Letter, Row, Sheet};
+use crate::sheet::{Letter, Row, Sheet};
 
 /// The five-qubit code, as in table 3.2.
 pub const A: &str = "\
@@ -162,13 +162,17 @@ pub fn starred() -> [String; 12] {
     ]
 }
 
-/// Every sample; all have the form of a sheet, and some fail the checks that come after it.
-pub fn all() -> Vec<String> {
+/// The sheets that 01 and document 000 name; all have the form of a sheet, and some fail the checks that come after it.
+pub fn published() -> Vec<String> {
     let others = [CLASH, NINE, TABLE_3_1, TABLE_3_3, TABLE_3_4, TABLE_3_5];
     let mut sheets = starred().to_vec();
     sheets.extend(others.map(str::to_string));
-    sheets.extend((2..=24).map(repetition));
     sheets
+}
+
+/// The repetition codes of every n.
+pub fn repetitions() -> Vec<String> {
+    (2..=24).map(repetition).collect()
 }
 
 /// The repetition code: ZZ on each pair of neighbours. Of two qubits it is K.
@@ -183,8 +187,9 @@ pub fn repetition(n: usize) -> String {
 }
 
 /// A row as it stands in a sheet.
+#[cfg(test)]
 pub fn row(text: &str) -> Row {
-    sheet::row(text.as_bytes(), text.len() - 1).expect("a sign and letters")
+    crate::sheet::row(text.as_bytes(), text.len() - 1).expect("a sign and letters")
 }
 
 /// A sheet with r generators, whose rows are any letters: of lawful form, and nothing more.

@@ -33,18 +33,23 @@ pub struct Row {
 }
 
 impl Row {
-    pub(crate) fn text(&self) -> Vec<u8> {
+    pub fn text(&self) -> Vec<u8> {
         let sign = if self.minus { b'-' } else { b'+' };
         [vec![sign], letters_text(&self.letters)].concat()
     }
 }
 
-fn letters_text(letters: &[Letter]) -> Vec<u8> {
+pub fn letters_text(letters: &[Letter]) -> Vec<u8> {
     letters.iter().map(|l| l.byte()).collect()
 }
 
-/// What 01's table of refusals has in every line: the number, and the line named (0 where none is). 6 to 10 are about a row, and have the
-/// letter of its key too.
+/// How many letters are not I.
+pub fn weight(letters: &[Letter]) -> usize {
+    letters.iter().filter(|&&l| l != Letter::I).count()
+}
+
+/// What 01's table of refusals has in every line: the number, and the line named (0 where none is). 6 to 10 are about
+/// a row, and have the letter of its key too.
 #[derive(Clone, Copy, PartialEq, Eq, Debug)]
 pub struct Refusal {
     pub number: u32,
@@ -54,7 +59,7 @@ pub struct Refusal {
 
 impl Refusal {
     /// A refusal that has no family.
-    pub(crate) fn new(number: u32, line: usize) -> Refusal {
+    pub fn new(number: u32, line: usize) -> Refusal {
         let family = None;
         Refusal {
             number,
@@ -94,11 +99,12 @@ impl Sheet {
     }
 }
 
-pub(crate) fn line(key: &str, value: &[u8]) -> Vec<u8> {
+pub fn line(key: &str, value: &[u8]) -> Vec<u8> {
     [key.as_bytes(), value, b"\n"].concat()
 }
 
-/// Reads the lines of a sheet, and leaves what stands behind w, as a report does. Gives the count of bytes used beside the sheet.
+/// Reads the lines of a sheet, and leaves what stands behind w, as a report does. Gives the count of bytes used
+/// beside the sheet.
 pub fn read_lines(bytes: &[u8]) -> Result<(Sheet, usize), Refusal> {
     if bytes.len() > 4096 {
         return Err(Refusal::new(1, 0));
@@ -138,7 +144,8 @@ pub fn read_alone(bytes: &[u8]) -> Result<Sheet, Refusal> {
     Ok(sheet)
 }
 
-/// The g lines: from 1 to n - 1, up to the first line that does not begin `g=`. Check 5 looks at a line before its form does.
+/// The g lines: from 1 to n - 1, up to the first line that does not begin `g=`. Check 5 looks at a line before its
+/// form does.
 fn read_generators(lines: &mut Lines, n: usize) -> Result<Vec<Row>, Refusal> {
     let mut generators = Vec::new();
     loop {
@@ -167,8 +174,8 @@ impl Lines<'_> {
         Refusal::new(number, self.next)
     }
 
-    /// Takes the next line and gives its value. The refusal is 2 where there is no such line: no line feed, not this key, or a value
-    /// that is off its form.
+    /// Takes the next line and gives its value. The refusal is 2 where there is no such line: no line feed, not this
+    /// key, or a value that is off its form.
     fn take<T>(&mut self, key: &str, form: impl Fn(&[u8]) -> Option<T>) -> Result<T, Refusal> {
         let value_and_rest = || {
             let end = self.rest.iter().position(|&byte| byte == b'\n')?;
@@ -204,7 +211,7 @@ fn one_or_two_digits(value: &[u8]) -> Option<usize> {
     }
 }
 
-pub(crate) fn row(value: &[u8], n: usize) -> Option<Row> {
+pub fn row(value: &[u8], n: usize) -> Option<Row> {
     let (sign, rest) = value.split_first()?;
     let minus = match sign {
         b'+' => false,
@@ -260,7 +267,7 @@ mod tests {
 
     #[test]
     fn samples_are_read_and_written_as_they_were() {
-        for text in samples::all() {
+        for text in [samples::published(), samples::repetitions()].concat() {
             let sheet = read(&text);
             assert_eq!(sheet.text(), text.as_bytes());
             assert_eq!(sheet.lines(), text.lines().count());

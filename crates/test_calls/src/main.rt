@@ -1,0 +1,33 @@
+// Runs the calls that are proved, so that they can be compared with an implementation that shares nothing with them.
+// Standard input is a run of cases, each of one kind: "p" for products of rows, "s" for a sheet that is read and
+// written back, "g" for the group of a sheet's generators.
+mod groups;
+mod products;
+mod sheets;
+mod written;
+
+use groups::answer_group;
+use products::answer_products;
+use sheets::answer_sheet;
+use test_cases::Case;
+use test_cases::print;
+
+// Answers cases up to the end of the input, and 65,536 at most, so that the loop has an end.
+fn main() {
+    let mut text = io::large_buffer();
+    for _ in 0..65536usize {
+        let Case::Got { kind, change, len } = test_cases::read_case(&mut text) else {
+            return;
+        };
+        answer(kind, change, &text[0..len]);
+    }
+}
+
+fn answer(kind: u8, change: usize, text: &[u8]) {
+    match kind {
+        b'p' => answer_products(text),
+        b's' => answer_sheet(text, change),
+        b'g' => answer_group(text, change),
+        _ => print(b"no kind of case\n"),
+    }
+}

@@ -1,0 +1,44 @@
+// What a writer does with buffers of three lengths.
+use sheet::Code;
+use sheet::Written;
+use test_cases::dots;
+use test_cases::one_less;
+use test_cases::print;
+use test_cases::print_buffer;
+use test_cases::print_written;
+
+// Of a record's sheet, or of its canonical generators.
+pub enum Writer {
+    Sheet,
+    Canonical,
+}
+
+// Writes with a byte less than the lines take, with as many, and with three more. No lines take more than the 1,352
+// bytes of the longest sheet, so the test never holds; it says to the proof that three more are within the 1,360
+// bytes that there are.
+pub fn write_thrice(writer: Writer, code: Code, used: usize) {
+    if 1357 < used {
+        return;
+    }
+    let mut short = dots();
+    print(b"short");
+    write_into(writer, code, &mut short[0..one_less(used)]);
+    let mut exact = dots();
+    print(b"exact");
+    write_into(writer, code, &mut exact[0..used]);
+    let mut longer = dots();
+    print(b"longer");
+    write_into(writer, code, &mut longer[0..used + 3]);
+}
+
+fn write_into(writer: Writer, code: Code, out: &mut [u8]) {
+    print_written(written(writer, code, &mut *out));
+    print_buffer(out);
+}
+
+fn written(writer: Writer, code: Code, out: &mut [u8]) -> Written {
+    match writer {
+        Writer::Sheet => writer::write_sheet(code, out),
+        Writer::Canonical => canonical::write_canonical(code, out),
+    }
+}

@@ -1,0 +1,186 @@
+//! What the test program has to write for a case.
+
+use crate::cases::{Case, Kind};
+use crate::group::member;
+use crate::product::{commute, product};
+use crate::record::{Pauli, Record};
+use crate::sheet::{self, Letter, Refusal, Row, Sheet};
+
+pub fn answer(case: &Case) -> Vec<u8> {
+    match case.kind {
+        Kind::Products => products(&case.text),
+        Kind::Sheet => sheet(&case.text, case.change),
+        Kind::Group => group(&case.text, case.change),
+    }
+}
+
+/// The product of the rows of a line, whether the last commutes with the product of those before it, and the
+/// product's weight.
+fn products(line: &[u8]) -> Vec<u8> {
+    let Some(rows) = rows_of_one_length(line) else {
+        return b"not rows\n".to_vec();
+    };
+    let (last, before) = rows.split_last().expect("a line has a row");
+    let before = product(last.letters.len(), before);
+    let product = before.times(last);
+    let word = match commute(&before.plus_row(), last) {
+        true => "commutes",
+        false => "anticommutes",
+    };
+    let weight = sheet::weight(&product.letters);
+    [product.text(), format!(" {word} {weight}\n").into()].concat()
+}
+
+/// One space between rows, and a line feed behind them.
+fn rows_of_one_length(line: &[u8]) -> Option<Vec<Row>> {
+    let words: Vec<&[u8]> = line
+        .strip_suffix(b"\n")?
+        .split(|&byte| byte == b' ')
+        .collect();
+    let n = words[0].len().checked_sub(1)?;
+    if !(1..=32).contains(&n) {
+        return None;
+    }
+    words.into_iter().map(|word| sheet::row(word, n)).collect()
+}
+
+/// The reading of the lines; and unless they are refused and there is no change, the record beside it and what is
+/// behind the lines, the reading of a sheet by itself and the numbers of its record, and what the writer makes of the
+/// changed record.
+fn sheet(text: &[u8], change: usize) -> Vec<u8> {
+    let reading = sheet::read_lines(text);
+    let lines = read_line("lines", &reading);
+    if reading.is_err() && change == 0 {
+        return lines.into();
+    }
+    let used = reading.as_ref().map_or(0, |(_, used)| *used);
+    let behind = reading.as_ref().map_or(&[][..], |_| &text[used..]);
+    let mut record = record_of(&reading);
+    let numbers = numbers_of(&record) + &some_rows(&record);
+    record.change(change);
+    let written = written_thrice(used, |out| record.write(out));
+    let (behind, alone) = (shown_behind(behind), alone(text));
+    [lines.into(), numbers.into(), behind, alone.into(), written].concat()
+}
+
+fn alone(text: &[u8]) -> String {
+    let reading = sheet::read_alone(text).map(|sheet| (sheet, text.len()));
+    read_line("alone", &reading) + &numbers_of(&record_of(&reading))
+}
+
+/// How many bytes were read and the line of w, or the refusal.
+fn read_line(name: &str, reading: &Result<(Sheet, usize), Refusal>) -> String {
+    let numbers = reading
+        .as_ref()
+        .map(|(sheet, used)| format!("{used} {}", sheet.lines()));
+    format!("{name} {}\n", value(numbers))
+}
+
+fn record_of(reading: &Result<(Sheet, usize), Refusal>) -> Record {
+    let sheet = reading.as_ref().map(|(sheet, _)| sheet);
+    sheet.map_or(Record::EMPTY, Record::of)
+}
+
+fn numbers_of(record: &Record) -> String {
+    format!("record {} {} {}\n", record.n, record.r, record.d)
+}
+
+/// The phases and masks of w, of the first row of each family, and of the last generator, or the first where there is
+/// none.
+fn some_rows(record: &Record) -> String {
+    let last = record.r.saturating_sub(1);
+    let Record { g, x, z, w, .. } = record;
+    let rows = [*w, g[0], x[0], z[0], g[last]];
+    let numbers = rows.map(|Pauli { p, a, b }| format!(" {p} {a} {b}"));
+    format!("rows{}\n", numbers.concat())
+}
+
+/// How many bytes are behind the lines, and these bytes unless they are more than 40.
+fn shown_behind(bytes: &[u8]) -> Vec<u8> {
+    let count = format!("behind {}\n", bytes.len()).into_bytes();
+    if bytes.len() > 40 {
+        return count;
+    }
+    [&count, bytes, b"\n"].concat()
+}
+
+/// The count of the rows or the refusal; and unless it is a refusal and there is no change, for each probe the sign
+/// of the member that it is, phase aside, and what the writer of canonical generators makes of the record.
+fn group(text: &[u8], change: usize) -> Vec<u8> {
+    let sheet = sheet::read_alone(text).ok();
+    let mut record = sheet.as_ref().map_or(Record::EMPTY, Record::of);
+    let room = record.r * (record.n + 4);
+    record.change(change);
+    let generators = record.checked_generators();
+    let count = generators.as_ref().map(|rows| rows.len());
+    let count = format!("group {}\n", value(count));
+    if generators.is_err() && change == 0 {
+        return count.into();
+    }
+    let memberships = probes(sheet)
+        .into_iter()
+        .map(|probe| membership(&generators, probe));
+    let probes = format!("probes{}\n", memberships.collect::<String>());
+    let written = written_thrice(room, |out| record.write_canonical(out));
+    [count.into(), probes.into(), written].concat()
+}
+
+/// The letters of the x rows, of the z rows, of w, of w with another phase, and of w with a bit above qubit n in
+/// either mask, which has no letters and is in no group. A refused reading has but the last four.
+fn probes(sheet: Option<Sheet>) -> Vec<Option<Vec<Letter>>> {
+    let Some(sheet) = sheet else {
+        return vec![None; 4];
+    };
+    let rows = sheet.xs.into_iter().chain(sheet.zs);
+    let claim = Some(sheet.claim);
+    let claims = [claim.clone(), claim, None, None];
+    rows.map(|row| Some(row.letters)).chain(claims).collect()
+}
+
+fn membership(generators: &Result<Vec<Row>, Refusal>, probe: Option<Vec<Letter>>) -> String {
+    let sign = |rows: &Vec<Row>| match probe.and_then(|letters| member(rows, &letters)) {
+        Some(row) if row.minus => "-",
+        Some(_) => "+",
+        None => "no",
+    };
+    let sign = generators.as_ref().map(sign);
+    format!(" {}", value(sign))
+}
+
+/// What a writer does with a byte less than its lines take, with as many, and with three more.
+fn written_thrice(used: usize, write: impl Fn(&mut [u8]) -> Result<usize, Refusal>) -> Vec<u8> {
+    let rooms = [
+        ("short", used.saturating_sub(1)),
+        ("exact", used),
+        ("longer", used + 3),
+    ];
+    let written = |(name, room)| written(name, room, &write);
+    rooms.into_iter().flat_map(written).collect()
+}
+
+/// What a writer answers, and its buffer of so many bytes. They are dots before, so that it can be seen what was
+/// written: up to the last byte that is no dot, and how many dots follow.
+fn written(
+    name: &str,
+    room: usize,
+    write: impl Fn(&mut [u8]) -> Result<usize, Refusal>,
+) -> Vec<u8> {
+    let mut buffer = vec![b'.'; room];
+    let answer = format!("{name} {}\n", value(write(&mut buffer).as_ref()));
+    let last = buffer.iter().rposition(|&byte| byte != b'.');
+    let shown = &buffer[..last.map_or(0, |last| last + 1)];
+    let dots = format!(" {}\n", room - shown.len());
+    [answer.as_bytes(), shown, dots.as_bytes()].concat()
+}
+
+/// A value, or a refusal with its number, its line, and its family where it has one.
+fn value(answer: Result<impl ToString, &Refusal>) -> String {
+    match answer {
+        Ok(value) => value.to_string(),
+        Err(refusal) => {
+            let family = refusal.family.map(|key| format!(" of={key}"));
+            let Refusal { number, line, .. } = refusal;
+            format!("r={number} at={line}{}", family.unwrap_or_default())
+        }
+    }
+}

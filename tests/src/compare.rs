@@ -1,0 +1,80 @@
+//! The built test program beside this implementation, on all cases.
+
+use crate::answers::answer;
+use crate::cases::Case;
+use crate::parts;
+use std::io::Write;
+use std::path::Path;
+use std::process::{Command, ExitCode, Output, Stdio};
+use std::{slice, thread};
+
+/// So many cases go to one run of the program. Where its answers differ, each of them goes to a run of its own.
+const BATCH: usize = 500;
+
+/// So many of the cases that differ are shown.
+const SHOWN: usize = 5;
+
+pub fn compare(program: &Path) -> ExitCode {
+    let cases = parts::all();
+    let mut failed = 0;
+    for batch in cases.chunks(BATCH) {
+        if answers_differ(program, batch).is_some() {
+            failed += differing(program, batch, SHOWN.saturating_sub(failed));
+        }
+    }
+    println!("{} passed, {failed} failed", cases.len() - failed);
+    ExitCode::from(u8::from(failed > 0))
+}
+
+/// How many of the cases differ, each run by itself; all of them where none does, since run together they do. Shows
+/// some.
+fn differing(program: &Path, cases: &[Case], shown: usize) -> usize {
+    let differences: Vec<(&Case, Output)> = cases
+        .iter()
+        .filter_map(|case| Some((case, answers_differ(program, slice::from_ref(case))?)))
+        .collect();
+    for (case, output) in differences.iter().take(shown) {
+        println!("--- the case\n{}", text(&case.bytes()));
+        println!("--- has to be answered\n{}", text(&answer(case)));
+        println!(
+            "--- and is answered ({})\n{}",
+            output.status,
+            text(&output.stdout)
+        );
+    }
+    match differences.len() {
+        0 => {
+            println!(
+                "--- {} cases differ when they are run together",
+                cases.len()
+            );
+            cases.len()
+        }
+        count => count,
+    }
+}
+
+/// Its lines, with the bytes escaped that cannot be seen.
+fn text(bytes: &[u8]) -> String {
+    bytes.escape_ascii().to_string().replace("\\n", "\n")
+}
+
+/// What the program gives, where that is not the answers to the cases.
+fn answers_differ(program: &Path, cases: &[Case]) -> Option<Output> {
+    let input: Vec<u8> = cases.iter().flat_map(Case::bytes).collect();
+    let answers: Vec<u8> = cases.iter().flat_map(answer).collect();
+    let output = run(program, input);
+    (!output.status.success() || output.stdout != answers).then_some(output)
+}
+
+fn run(program: &Path, input: Vec<u8>) -> Output {
+    let mut command = Command::new(program);
+    let command = command.stdin(Stdio::piped()).stdout(Stdio::piped());
+    let mut child = command.spawn().expect("the program runs");
+    let mut stdin = child.stdin.take().expect("it has a standard input");
+    // a program that ends early closes its input, and its answers then differ
+    let writer = thread::spawn(move || stdin.write_all(&input).ok());
+    let output = child.wait_with_output().expect("the program ends");
+    writer.join().expect("its input is written");
+    output
+}

@@ -1,0 +1,53 @@
+//! Document 01 once more, written from the document alone: the test program `test_calls` is compared with it. Clarity
+//! goes before speed. A row is a sign and a list of letters, and only the record, as a caller hands it over, has
+//! masks and phases: they come from the letters one by one, so that a mistake about them is not made here as well.
+//!
+//! `independent cases` writes a selection of the cases, and `independent answers` reads cases and writes an answer
+//! for each: these two make crates/test_calls/stdin and crates/test_calls/stdout. `independent compare PROGRAM` runs
+//! the program on all cases and compares its answers.
+
+mod answers;
+mod cases;
+mod compare;
+mod damage;
+mod group;
+mod lists;
+mod parts;
+mod product;
+mod random;
+mod record;
+mod samples;
+mod sheet;
+
+use cases::Case;
+use std::io::{self, Read, Write};
+use std::path::Path;
+use std::process::ExitCode;
+
+fn main() -> ExitCode {
+    let arguments: Vec<String> = std::env::args().skip(1).collect();
+    let arguments: Vec<&str> = arguments.iter().map(String::as_str).collect();
+    match arguments[..] {
+        ["cases"] => write(parts::selection().iter().flat_map(Case::bytes)),
+        ["answers"] => write(cases::read(&input()).iter().flat_map(answers::answer)),
+        ["compare", program] => return compare::compare(Path::new(program)),
+        _ => {
+            eprintln!("cases; or answers, with cases on standard input; or compare and a program");
+            return ExitCode::FAILURE;
+        }
+    }
+    ExitCode::SUCCESS
+}
+
+fn input() -> Vec<u8> {
+    let mut bytes = Vec::new();
+    let read = io::stdin().read_to_end(&mut bytes);
+    read.expect("bytes on standard input");
+    bytes
+}
+
+fn write(bytes: impl Iterator<Item = u8>) {
+    let bytes: Vec<u8> = bytes.collect();
+    let written = io::stdout().write_all(&bytes);
+    written.expect("standard output is open");
+}
