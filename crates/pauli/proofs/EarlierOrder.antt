@@ -1,9 +1,12 @@
--- The order "earlier" is a strict total order, and the lists of strings are in it and complete.
--- `SmallerLetter` and `Earlier` both compare a key and go on only where it is equal, so their laws are proved of one such step.
--- The strings of a weight are taken by their first letter: between two that begin differently its rank decides, and an equal first letter keeps the order.
+-- The order "earlier" is a strict total order, and the lists of strings are in it and complete. `SmallerLetter` and
+-- `Earlier` both compare a key and go on only where it is equal, so their laws are proved of one such step. The strings
+-- of a weight are taken by their first letter: between two that begin differently its rank decides, and an equal first
+-- letter keeps the order.
 use mathlib.Core.HLevel.{⊥-prop, ×-prop, hedberg}
-use mathlib.Core.List.{List, [], _∷_, map, flatMap, mem-append, List·Nodup, Pairwise, Pairwise·nil, Pairwise·imp, Pairwise·map, pairwise-append, pairwise-singleton}
-use mathlib.Core.List.{List-discrete, List·Memᴰ, List·Memᴰ·head, List·Memᴰ·not-nil, List·Memᴰ·append-cases, List·Memᴰ·eq-of-singleton}
+use mathlib.Core.List.{List, [], _∷_, map, flatMap, mem-append, List·Nodup, Pairwise, Pairwise·nil, Pairwise·imp}
+use mathlib.Core.List.{Pairwise·map, pairwise-append, pairwise-singleton}
+use mathlib.Core.List.{List-discrete, List·Memᴰ, List·Memᴰ·head, List·Memᴰ·not-nil, List·Memᴰ·append-cases}
+use mathlib.Core.List.{List·Memᴰ·eq-of-singleton}
 use mathlib.Core.List.{Memᴰ·append-left, Memᴰ·append-right, Memᴰ·map, Memᴰ·of-map}
 use mathlib.Core.Logic.{_⊎_, inl, inr, ⊎-elim, ⊎-map, by-cases, ∥∥₁-elim, Or·elim, Iff·or, Iff·trans}
 use mathlib.Core.Path.{_≡_, refl, ap, sym, subst, _∙_}

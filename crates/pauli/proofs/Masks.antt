@@ -1,5 +1,6 @@
--- Laws of masks of any width. Each is proved by halving: what holds of the lowest bits, which are 0 or 1, and of the halves holds of the masks. The
--- library has the rest: xor-comm, xor-zero-l, xor-zero-r, xor-self, and that n-bit masks are closed (xor-lt, and-lt, or-lt), in lib.Bits.
+-- Laws of masks of any width. Each is proved by halving: what holds of the lowest bits, which are 0 or 1, and of the
+-- halves holds of the masks. The library has the rest: xor-comm, xor-zero-l, xor-zero-r, xor-self, and that n-bit masks
+-- are closed (xor-lt, and-lt, or-lt), in lib.Bits.
 use mathlib.Core.List.{head-eq-of-cons-eq, tail-eq-of-cons-eq}
 use mathlib.Core.Path.{_≡_, refl, ap, ap₂, sym, _∙_}
 use Prim.Native.Nat.{ℕ, zero, suc, _+_, _*_, _/_, _%_, _^_, _<_, _≤_}

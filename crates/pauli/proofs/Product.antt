@@ -1,4 +1,5 @@
--- Paulis with phase are a group, and what commutes in it. Phases are compared as remainders by 4, where twice a count of ones depends on its parity alone.
+-- Paulis with phase are a group, and what commutes in it. Phases are compared as remainders by 4, where twice a count
+-- of ones depends on its parity alone.
 use mathlib.Core.Bool.{Bool, true, false, not, xor, false≢true}
 use mathlib.Core.Logic.{_↔_}
 use mathlib.Core.Path.{_≡_, refl, ap, ap₂, sym, _∙_}
@@ -11,8 +12,10 @@ use lib.Dec.{eqb}
 use borrow.Author.Tests.{eqb-true}
 use Rattle.pauli.specs.declared.Pauli.{Pauli}
 use Rattle.pauli.specs.Masks.{dot}
-use Rattle.pauli.specs.Product.{identity, product, negated, inverse, symplectic, commutes, anticommutes, weight, modulo4}
-use Rattle.pauli.proofs.Masks.{digit, xor-assoc, dot-comm, dot-ones, dot-xor, dot-xor-l, countOnes-zero, countOnes-xor-le, twice-or, xor-swap}
+use Rattle.pauli.specs.Product.{identity, product, negated, inverse, symplectic, commutes, anticommutes, weight}
+use Rattle.pauli.specs.Product.{modulo4}
+use Rattle.pauli.proofs.Masks.{digit, xor-assoc, dot-comm, dot-ones, dot-xor, dot-xor-l, countOnes-zero}
+use Rattle.pauli.proofs.Masks.{countOnes-xor-le, twice-or, xor-swap}
 use Rattle.pauli.proofs.Modulo.{same-remainder, sum-remainder}
 
 abbrev pub pauli : ℕ → ℕ → ℕ → Pauli
@@ -140,7 +143,8 @@ not-negated P Q e = differ ((product P Q) .p) (product-phase-lt P Q) (ap (λ (R 
     differ : (x : ℕ) → x < 4 → x ≡ (x + 2) % 4 → ⊥
     differ x h e = omega arith
 
--- So the count decides: it is even exactly where the two products are one, and odd exactly where they differ by the sign.
+-- So the count decides: it is even exactly where the two products are one, and odd exactly where they differ by the
+-- sign.
 pub commutes-decides : (P Q : Pauli) → (commutes P Q ≡ true) ↔ (product P Q ≡ product Q P)
 unfolding anticommutes
 commutes-decides P Q = (commuting-product P Q, go (commutes P Q) refl)
@@ -172,7 +176,8 @@ anticommutes-product R P Q =
 
 -- ---- weight
 
--- Twice the weight is the ones of a, of b and of their sum, and none of the three grows under xor beyond the sum of its own.
+-- Twice the weight is the ones of a, of b and of their sum, and none of the three grows under xor beyond the sum of its
+-- own.
 pub weight-product-le : (P Q : Pauli) → weight (product P Q) ≤ weight P + weight Q
 unfolding weight product
 weight-product-le P Q =

@@ -1,5 +1,6 @@
--- Signed rows: a row is known by its sign and letters, and two rows that commute have a row for their product. A Pauli is a signed row exactly where its
--- phase and the count of its Y's have one parity, and that parity is additive over the product but for the symplectic product of the two.
+-- Signed rows: a row is known by its sign and letters, and two rows that commute have a row for their product. A Pauli
+-- is a signed row exactly where its phase and the count of its Y's have one parity, and that parity is additive over
+-- the product but for the symplectic product of the two.
 use mathlib.Core.Path.{_≡_, refl, _∙_}
 use mathlib.Core.Bool.{Bool, true, false, cond, _||_, or-true}
 use mathlib.Core.List.{List}
@@ -11,7 +12,8 @@ use Rattle.pauli.specs.declared.Pauli.{Pauli}
 use Rattle.pauli.specs.declared.Letter.{Letter}
 use Rattle.pauli.specs.declared.Sign.{Sign}
 use Rattle.pauli.specs.declared.Sign.the-variants.{Plus, Minus}
-use Rattle.pauli.specs.Letters.{lettersOf, xMask, zMask, countY, signPhase, rowPhase, rowOf, signedRow, hasSign, isSignedRow, signOf}
+use Rattle.pauli.specs.Letters.{lettersOf, xMask, zMask, countY, signPhase, rowPhase, rowOf, signedRow, hasSign}
+use Rattle.pauli.specs.Letters.{isSignedRow, signOf}
 use Rattle.pauli.specs.Masks.{dot}
 use Rattle.pauli.specs.Product.{product, commutes, symplectic, modulo4, hasPhase}
 use Rattle.pauli.proofs.Letters.{dot-counts-y, masks-return}
