@@ -1,3 +1,4 @@
+pub mod Masks
 pub mod Earliest
 pub mod Light
 pub mod Halves

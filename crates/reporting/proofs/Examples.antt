@@ -1,4 +1,5 @@
--- Reports at the edges, computed: codes that tell right from nearly right, the largest n, faults in the `s=` lines, a short buffer.
+-- Reports at the edges, computed: codes that tell right from nearly right, the largest n, faults in the `s=` lines,
+-- a short buffer.
 use mathlib.Core.List.{List, [], _∷_, _++_, map, List·Memᴰ}
 use mathlib.Core.Path.{_≡_, refl}
 use Prim.Native.String.{String, _++_ as _⧺_}

@@ -1,5 +1,5 @@
--- The starred sheets, from the definitions: every entry of the table is right, the answer of the sheet read by itself and the bytes of its report.
--- The table is computed. Assumes nothing.
+-- The starred sheets, from the definitions: every entry of the table is right, the answer of the sheet read by
+-- itself and the bytes of its report. The table is computed. Assumes nothing.
 use mathlib.Core.List.{List·Memᴰ}
 use mathlib.Core.Path.{_≡_, refl}
 use Prim.Native.String.{_++_}

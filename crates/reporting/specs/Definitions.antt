@@ -1,5 +1,5 @@
--- Every definition of this layer and of those below it that computes, to be definitions at once where an example is computed: a proof that says
--- `unfolding definitions` unfolds all that the line below names.
+-- Every definition of this layer and of those below it that computes, to be definitions at once where an example is
+-- computed: a proof that says `unfolding definitions` unfolds all that the line below names.
 use Rattle.decoder.specs.Definitions.{definitions as definitions-decoder}
 use Rattle.reporting.specs.Report.{errorsText, refusalText, syndromeLine, syndromeLines, correctionValue, correctionLine, codeText, reportOfSyndromes, reportOfCode, reportOfLines, reportText, writeReport}
 

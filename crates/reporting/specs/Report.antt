@@ -35,7 +35,8 @@ refusalText refusal =
 unfoldable pub syndromeLine : Code → ℕ → Reader (List Bool)
 syndromeLine c at = readLine "s=" (c .r) (readSyndrome (c .r)) (Refusal.Syndrome at)
 
--- The `s=` lines from the line `at` on, to the end of the input. A line has a byte at least, so as many lines as bytes are enough.
+-- The `s=` lines from the line `at` on, to the end of the input. A line has a byte at least, so as many lines as
+-- bytes are enough.
 unfoldable pub syndromeLines : ℕ → Code → ℕ → Reader (List (List Bool))
 syndromeLines zero c at [] = got [] []
 syndromeLines zero c at (b ∷ s) = stop (Refusal.Syndrome at)
@@ -51,8 +52,8 @@ correctionValue (some s) = map letterByte s
 unfoldable pub correctionLine : Code → List Bool → List ℕ
 correctionLine c bits = line "c=" (correctionValue (correction c bits))
 
--- 01: "Lines, each closed by a line feed and with no leading zeros: `n=`, `k=`, `d=`, `t=`, one `h=` for each tidy row, one `c=` for each
--- syndrome."
+-- 01: "Lines, each closed by a line feed and with no leading zeros: `n=`, `k=`, `d=`, `t=`, one `h=` for each tidy
+-- row, one `c=` for each syndrome."
 unfoldable pub codeText : Code → List ℕ
 codeText c =
     line "n=" (decimal (c .n)) ++ line "k=" (decimal (logicalCount c)) ++ line "d=" (decimal (c .d))
@@ -73,11 +74,12 @@ unfoldable pub reportOfLines : Parsed Code → List ℕ
 reportOfLines (got c rest) = reportOfCode c rest (codeFault c)
 reportOfLines (stop refusal) = refusalText refusal
 
--- 01: "Reports read a sheet and then any number of `s=` lines": the lines of the sheet, 6 to 14, "then, in a report, 16 line by line".
+-- 01: "Reports read a sheet and then any number of `s=` lines": the lines of the sheet, 6 to 14, "then, in a
+-- report, 16 line by line".
 unfoldable pub reportText : List ℕ → List ℕ
 reportText s = reportOfLines (readLines s)
 
--- 01: "a report writes refusals 1 to 14 and 16 as text; where that text is longer than the buffer, 17 is the answer and nothing is
--- written."
+-- 01: "a report writes refusals 1 to 14 and 16 as text; where that text is longer than the buffer, 17 is the answer
+-- and nothing is written."
 unfoldable pub writeReport : List ℕ → List ℕ → After Written
 writeReport s buffer = written none (reportText s) buffer

@@ -50,8 +50,8 @@ ReportRefusalNumbers =
 abbrev pub ReportRefusalsLeave : Type 0
 ReportRefusalsLeave = (s buffer : List ℕ) → RefusalLeaves writtenRefusal buffer (writeReport s buffer)
 
--- A sheet that 6 to 14 refuse has that refusal as its report, whatever stands behind it. So the `e=` and `f=` of a report are the two errors
--- that refusal 14 carries.
+-- A sheet that 6 to 14 refuse has that refusal as its report, whatever stands behind it. So the `e=` and `f=` of a
+-- report are the two errors that refusal 14 carries.
 abbrev pub RefusalsAreReported : Type 0
 RefusalsAreReported =
     (s rest : List ℕ) (c : Code) (refusal : Refusal) → readForm s ≡ got c [] → codeFault c ≡ some refusal
