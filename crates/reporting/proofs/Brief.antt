@@ -1,4 +1,5 @@
--- The refusals of a record's checks are brief: they name lines of the sheet, and errors on the code's qubits.
+-- The refusals of a record's checks are brief, as text: they name lines of the sheet, which has few lines, and
+-- errors on the code's qubits, of which there are few.
 use mathlib.Core.List.{List, [], _∷_, _++_}
 use mathlib.Core.Option.{Option, none}
 use mathlib.Core.Path.{_≡_, refl}
@@ -10,7 +11,7 @@ use Rattle.pauli.specs.declared.Pauli.{Pauli}
 use Rattle.pauli.specs.Lists.{bytes}
 use Rattle.sheet.specs.declared.Code.{Code}
 use Rattle.sheet.specs.declared.Refusal.{Refusal}
-use Rattle.sheet.specs.Record.{generators, generatorsAt, logicalCount, logicalsAt, claimAt}
+use Rattle.sheet.specs.Record.{generators, generatorsAt, pairCount, logicalCount, logicalsAt, claimAt}
 use Rattle.sheet.specs.Refusals.{values, _then_}
 use Rattle.sheet.specs.Statements.{Sized}
 use Rattle.sheet.proofs.Lengths.{length-line, length-letterText, length-generators, length-logicalXs, length-logicalZs}
@@ -24,14 +25,17 @@ use Rattle.admission.specs.Logicals.{logicals, detected, mispaired, detectedFau
 use Rattle.admission.proofs.Numbers.{mapped-lawful}
 use Rattle.reporting.specs.Report.{errorsText}
 
--- A line that is named is one of the sheet's, at most 51, or one of those behind it, which have at most 4,096 bytes.
+-- No line has a higher number: a sheet has 51 lines at most, and each line behind it has a byte of the 4,096.
+abbrev pub lastLine : ℕ
+lastLine = 5000
+
 -- The errors are two lines of at most 24 letters.
 pub record Brief (refusal : Refusal) : Type 0 where
   pub number : values refusal .number ≤ 17
-  pub line : values refusal .line ≤ 5000
+  pub line : values refusal .line ≤ lastLine
   pub errors : length (errorsText (values refusal .errors)) ≤ 54
 
-pub brief : (refusal : Refusal) → values refusal .number ≤ 17 → values refusal .line ≤ 5000
+pub brief : (refusal : Refusal) → values refusal .number ≤ 17 → values refusal .line ≤ lastLine
     → values refusal .errors ≡ none → Brief refusal
 unfolding errorsText
 brief refusal number line none-carried = record { number = number; line = line; errors = rw none-carried (lit≤ tt) }
@@ -39,8 +43,8 @@ brief refusal number line none-carried = record { number = number; line = line; 
 -- ---- the checks
 
 first-brief : (check : List Pauli → ℕ → Pauli → Option Refusal)
-    → ((before : List Pauli) (at : ℕ) (P : Pauli) → at ≤ 5000 → IfRefused Brief (check before at P))
-    → (before : List Pauli) (at : ℕ) (rows : List Pauli) → at + length rows ≤ 5000
+    → ((before : List Pauli) (at : ℕ) (P : Pauli) → at ≤ lastLine → IfRefused Brief (check before at P))
+    → (before : List Pauli) (at : ℕ) (rows : List Pauli) → at + length rows ≤ lastLine
     → IfRefused Brief (firstFault check before at rows)
 unfolding firstFault
 first-brief check each before at [] few = IfRefused.unrefused
@@ -49,18 +53,20 @@ first-brief check each before at (P ∷ rows) few =
     (first-brief check each (before ++ P ∷ []) (at + 1) rows (omega arith))
 
 module _ (c : Code) (sized : Sized c) (within : Limits c) where
-  generators-brief : IfRefused Brief (generatorFault (generators c))
-  unfolding generatorFault clash dependence generatorsAt
-  generators-brief =
-      let r = length-generators c sized within in
-      then-lawful
-      (first-brief clash (λ before at P h. refuseIf-lawful _ _ (brief _ (lit≤ tt) h refl)) [] 3 (generators c)
-      (omega arith))
-      (first-brief dependence (λ before at P h. then-lawful (refuseIf-lawful _ _ (brief _ (lit≤ tt) h refl))
-      (refuseIf-lawful _ _ (brief _ (lit≤ tt) h refl))) [] 3 (generators c) (omega arith))
+  generators-few : generatorsAt c + length (generators c) ≤ lastLine
+  unfolding generatorsAt
+  generators-few = omega (arith, length-generators c sized within)
 
-  logicals-few : logicalsAt c + length (logicals c) ≤ 5000
-  unfolding logicalsAt generatorsAt logicals
+  generators-brief : IfRefused Brief (generatorFault (generatorsAt c) (generators c))
+  unfolding generatorFault clash dependence
+  generators-brief =
+      then-lawful
+      (first-brief clash (λ before at P h. refuseIf-lawful _ _ (brief _ (lit≤ tt) h refl)) [] _ _ generators-few)
+      (first-brief dependence (λ before at P h. then-lawful (refuseIf-lawful _ _ (brief _ (lit≤ tt) h refl))
+      (refuseIf-lawful _ _ (brief _ (lit≤ tt) h refl))) [] _ _ generators-few)
+
+  logicals-few : logicalsAt c + length (logicals c) ≤ lastLine
+  unfolding generatorsAt logicalsAt logicals pairCount logicalCount
   logicals-few =
       rw length-append (omega (arith, length-logicalXs c sized within, length-logicalZs c sized within))
 
@@ -75,30 +81,30 @@ module _ (c : Code) (sized : Sized c) (within : Limits c) where
       first-brief (mispaired c) (λ before at P h. refuseIf-lawful _ _ (brief _ (lit≤ tt) h refl)) [] _ _ logicals-few
 
   pub claim-few : claimAt c ≤ 60
-  unfolding claimAt logicalsAt generatorsAt logicalCount
+  unfolding generatorsAt logicalsAt claimAt pairCount logicalCount
   claim-few = omega arith
 
-  claim-brief : IfRefused Brief (claimedWeightFault c then claimedDetectedFault c then claimedInGroupFault c)
-  unfolding claimedWeightFault claimedDetectedFault claimedInGroupFault
-  claim-brief =
-      let few : claimAt c ≤ 5000 = omega (arith, claim-few) in
-      then-lawful (refuseIf-lawful _ _ (brief _ (lit≤ tt) few refl))
-      (then-lawful (refuseIf-lawful _ _ (brief _ (lit≤ tt) few refl))
-      (refuseIf-lawful _ _ (brief _ (lit≤ tt) few refl)))
+  module _ (at : ℕ) (few : at ≤ lastLine) where
+    claim-brief : IfRefused Brief (claimedWeightFault at c then claimedDetectedFault at c then claimedInGroupFault at c)
+    unfolding claimedWeightFault claimedDetectedFault claimedInGroupFault
+    claim-brief =
+        then-lawful (refuseIf-lawful _ _ (brief _ (lit≤ tt) few refl))
+        (then-lawful (refuseIf-lawful _ _ (brief _ (lit≤ tt) few refl))
+        (refuseIf-lawful _ _ (brief _ (lit≤ tt) few refl)))
 
-  -- The errors of 14 have n letters each.
-  distance-brief : IfRefused Brief (distanceFault c)
-  unfolding distanceFault errorsText refutingPair bytes
-  distance-brief =
-      mapped-lawful _ (λ s. record {
-        number = lit≤ tt;
-        line = omega (arith, claim-few);
-        errors = simp (length-append, length-line, length-letterText) (omega arith);
-      }) (logicalErrorUpTo c (c .d - 1))
+    -- The errors of 14 have n letters each.
+    distance-brief : IfRefused Brief (distanceFault at c)
+    unfolding distanceFault errorsText refutingPair bytes
+    distance-brief =
+        mapped-lawful _ (λ s. record {
+          number = lit≤ tt;
+          line = few;
+          errors = simp (length-append, length-line, length-letterText) (omega arith);
+        }) (logicalErrorUpTo c (c .d - 1))
 
-  pub code-brief : IfRefused Brief (codeFault c)
-  unfolding codeFault faultButDistance
-  code-brief =
-      then-lawful
-      (then-lawful generators-brief (then-lawful detected-brief (then-lawful pairing-brief claim-brief)))
-      distance-brief
+    pub code-brief : IfRefused Brief (codeFault at c)
+    unfolding codeFault faultButDistance
+    code-brief =
+        then-lawful
+        (then-lawful generators-brief (then-lawful detected-brief (then-lawful pairing-brief claim-brief)))
+        distance-brief
