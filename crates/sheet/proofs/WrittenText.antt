@@ -1,5 +1,5 @@
--- What a call answers whose answer is a text: the fault of its checks, or 17, or the text and its length. Each outcome is read off
--- `written`, once for every such call.
+-- What a call answers whose answer is a text: the fault of its checks, or 17, or the text and its length. Each outcome
+-- is read off `written`, once for every such call.
 use mathlib.Core.Bool.{Bool, true, false, not}
 use mathlib.Core.List.{List}
 use mathlib.Core.Option.{Option, none, some}

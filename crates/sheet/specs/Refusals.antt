@@ -15,8 +15,8 @@ use Rattle.sheet.specs.declared.RefusalValues.{RefusalValues}
 use Rattle.sheet.specs.declared.RowFamily.{RowFamily}
 use Rattle.sheet.specs.declared.Written.{Written}
 
--- RULES, "Refusals": a refusal has a number and the line named, 0 for none. One about a row has the row's family besides, and 14
--- has two errors.
+-- RULES, "Refusals": a refusal has a number and the line named, 0 for none. One about a row has the row's family
+-- besides, and 14 has two errors.
 pub record Values : Type 0 where
   pub number : ℕ
   pub line : ℕ
