@@ -7,6 +7,7 @@ use native.Mathlib.Omega.{arith}
 use lib.Dec.{ltb}
 use lib.ListN.{length, drop, set, length-append}
 use Rattle.pauli.specs.declared.Pauli.{Pauli}
+use Rattle.sheet.specs.Record.{generatorRoom}
 use Rattle.stabilizer.specs.Canonical.{pivot, insertByPivot}
 use Rattle.elimination.specs.declared.ReducedRows.{ReducedRows}
 use Rattle.elimination.specs.Answers.{rowsIn, reducedOf}
@@ -34,7 +35,7 @@ module _ {n : ℕ} {hs : ReducedRows} {rest all : List Pauli} {size : ℕ} (g : 
   grown-count = ap (λ r. r .count) (g .held) ∙ g .sized
 
 -- One row is stored behind the others.
-pub grown-more : {n : ℕ} {hs : ReducedRows} {rest all : List Pauli} {size : ℕ} (h : Pauli) → Grown n hs (h ∷ rest) all size → size < 32
+pub grown-more : {n : ℕ} {hs : ReducedRows} {rest all : List Pauli} {size : ℕ} (h : Pauli) → Grown n hs (h ∷ rest) all size → size < generatorRoom
     → Grown n (value (hs .n) (size + 1) (set (hs .rows) size h)) rest all (size + 1)
 unfolding reducedOf
 grown-more {n} {hs} {rest} {all} {size} h g room =

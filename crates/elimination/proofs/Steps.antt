@@ -18,7 +18,8 @@ use Rattle.stabilizer.specs.Checks.{minusIdentity, firstFault, dependence}
 use Rattle.stabilizer.proofs.All.{All, all-at, all-places}
 use Rattle.stabilizer.proofs.Faults.{reducedFault, dependence-reduced}
 use Rattle.stabilizer.proofs.Generated.{whole, Commute, Commuting}
-use Rattle.stabilizer.proofs.Independent.{Rows, Independent, independent-none, independent-more}
+use Rattle.stabilizer.proofs.Independent.{Independent, independent-none, independent-more}
+use Rattle.stabilizer.proofs.StabilizerRows.{Rows}
 use Rattle.stabilizer.proofs.Reduction.{canonical-more}
 use Rattle.elimination.specs.declared.Added.{Added}
 use Rattle.elimination.specs.declared.Kind.{Kind}
@@ -27,7 +28,7 @@ use Rattle.elimination.specs.declared.ReducedRows.{ReducedRows}
 use Rattle.elimination.specs.Answers.{rowsIn, reducedOf}
 use Rattle.elimination.specs.Step.{IsReducedOf, kindOf, addition}
 use Rattle.elimination.proofs.Rows.{rows-of, is-reduced-of}
-use Rattle.elimination.proofs.Walk.{Left, taken-more, fault-at, fault-end}
+use Rattle.elimination.proofs.Walk.{Left, taken-more, fault-start, fault-at, fault-end}
 
 -- ---- the fault of a kind
 
@@ -73,16 +74,17 @@ all-taken S rows count place few room all = all-places S identity (take place ro
         subst S (getD-take count rows i identity (omega arith) ∙ sym (getD-take place rows i identity short))
         (all-at S identity (take count rows) all i (omega (arith, length-take count rows)))
 
-module _ (n : ℕ) (rows : List Pauli) (count : ℕ) where
+-- `line` is the line of the first row.
+module _ (n line : ℕ) (rows : List Pauli) (count : ℕ) where
   -- The first `place` of them, and what 7 and 8 find behind them.
   pub record Stepped (place : ℕ) (hs : ReducedRows) : Type 0 where
     pub held : hs ≡ reducedOf n (canonicalGenerators n (take place rows))
     pub independent : Independent n (take place rows)
-    pub left : Left dependence rows count place 3 ≡ firstFault dependence [] generatorsAt (take count rows)
+    pub left : Left dependence rows count place line ≡ firstFault dependence [] line (take count rows)
 
   pub stepped-none : (hs : ReducedRows) → hs ≡ reducedOf n [] → Stepped 0 hs
-  unfolding canonicalGenerators generatorsAt
-  stepped-none hs e = record { held = e; independent = independent-none n; left = refl }
+  unfolding canonicalGenerators
+  stepped-none hs e = record { held = e; independent = independent-none n; left = fault-start dependence rows count 0 line refl }
 
   module _ {place : ℕ} {hs : ReducedRows} (s : Stepped place hs) where
     pub stepped-is : IsReducedOf hs
@@ -92,8 +94,8 @@ module _ (n : ℕ) (rows : List Pauli) (count : ℕ) where
     unfolding reducedOf
     stepped-count few = omega (arith, ap (λ r. r .count) (s .held), s .independent .count, length-take place rows)
 
-    pub stepped-end : count ≤ place → none ≡ firstFault dependence [] generatorsAt (take count rows)
-    stepped-end end = sym (fault-end dependence rows count place 3 end) ∙ s .left
+    pub stepped-end : count ≤ place → none ≡ firstFault dependence [] line (take count rows)
+    stepped-end end = sym (fault-end dependence rows count place line end) ∙ s .left
 
     -- One row more, of rows of n qubits that commute.
     module _ (room : count ≤ length rows) (areRows : Rows n (take count rows)) (commuting : Commuting whole (take count rows))
@@ -133,18 +135,18 @@ module _ (n : ℕ) (rows : List Pauli) (count : ℕ) where
 
       -- What is found from here on.
       found : {kind : Kind} → step .kind ≡ kind
-          → (kindFault (3 + place) kind then Left dependence rows count (place + 1) 3) ≡ firstFault dependence [] generatorsAt (take count rows)
+          → (kindFault (line + place) kind then Left dependence rows count (place + 1) line) ≡ firstFault dependence [] line (take count rows)
       unfolding Q
       found e =
-          ap (λ k. kindFault (3 + place) k then Left dependence rows count (place + 1) 3) (sym e ∙ kind-is)
-          ∙ ap (λ f. f then Left dependence rows count (place + 1) 3)
-          (sym (dependence-reduced n (take place rows) (3 + place) (getD rows place identity) (s .independent) row ∙ kind-fault (3 + place) Q))
-          ∙ sym (fault-at dependence rows count place 3 few room) ∙ s .left
+          ap (λ k. kindFault (line + place) k then Left dependence rows count (place + 1) line) (sym e ∙ kind-is)
+          ∙ ap (λ f. f then Left dependence rows count (place + 1) line)
+          (sym (dependence-reduced n (take place rows) (line + place) (getD rows place identity) (s .independent .stabilizer) row ∙ kind-fault (line + place) Q))
+          ∙ sym (fault-at dependence rows count place line few room) ∙ s .left
 
-      pub stepped-fault : {kind : Kind} {refusal : Refusal} → step .kind ≡ kind → kindFault (3 + place) kind ≡ some refusal
-          → some refusal ≡ firstFault dependence [] generatorsAt (take count rows)
+      pub stepped-fault : {kind : Kind} {refusal : Refusal} → step .kind ≡ kind → kindFault (line + place) kind ≡ some refusal
+          → some refusal ≡ firstFault dependence [] line (take count rows)
       unfolding _then_
-      stepped-fault e f = ap (λ fault. fault then Left dependence rows count (place + 1) 3) (sym f) ∙ found e
+      stepped-fault e f = ap (λ fault. fault then Left dependence rows count (place + 1) line) (sym f) ∙ found e
 
       pub stepped-more : step .kind ≡ IsIndependent → Stepped (place + 1) (step .reduced)
       unfolding _then_ Q reducesToIdentity

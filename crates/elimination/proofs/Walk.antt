@@ -34,6 +34,11 @@ module _ (check : List Pauli → ℕ → Pauli → Option Refusal) (rows : List 
       ∙ ap₂ (λ before line. check (take place rows) (at + place) (getD rows place identity) then firstFault check before line (drop (place + 1) (take count rows)))
       (taken-more rows place inside) (omega arith)
 
+  pub fault-start : place ≡ 0 → Left ≡ firstFault check [] at (take count rows)
+  fault-start first =
+      ap (λ i. firstFault check (take i rows) (at + i) (drop i (take count rows))) first
+      ∙ ap (λ i. firstFault check [] i (take count rows)) (omega arith)
+
   pub fault-end : count ≤ place → Left ≡ none
   unfolding firstFault
   fault-end end = ap (firstFault check (take place rows) (at + place)) (taken-end rows count place (inl end))

@@ -36,4 +36,4 @@ addition hs P =
 
 -- 7 and 8 over the generators of a record.
 unfoldable pub independence : Code → Elimination
-independence c = eliminated (firstFault dependence [] generatorsAt (generators c)) (c .n) (canonicalGenerators (c .n) (generators c))
+independence c = eliminated (firstFault dependence [] (generatorsAt c) (generators c)) (c .n) (canonicalGenerators (c .n) (generators c))

@@ -6,6 +6,7 @@ use Prim.Native.Nat.{_+_, _-_, _≤_}
 use native.Mathlib.Omega.{arith}
 use borrow.Author.Tests.{lt-ltb, le-ltb}
 use lib.Dec.{ltb}
+use Rattle.sheet.specs.Record.{generatorRoom}
 use Rattle.stabilizer.specs.Canonical.{pivot}
 use Rattle.elimination.specs.Step.{belowPivot}
 use Rattle.elimination.proofs.GatheredRows.{Grown, grown-none, grown-as, grown-more, grown-all, below-stops, below-goes-on, below-nothing}
@@ -25,7 +26,7 @@ abbrev μ-loop : tie.MeasureT-loop
 abbrev start : tie.At-loop Inv-loop μ-loop → tie.Start Inv-loop μ-loop
 start c = c .before .before .before
 
-few : (c : tie.At-loop Inv-loop μ-loop) → start c .args .t1 .count ≤ 32
+few : (c : tie.At-loop Inv-loop μ-loop) → start c .args .t1 .count ≤ generatorRoom
 few c = let hs = start c .args .t1 in omega (arith, count-room hs (start c .pre), room-of hs (start c .good .0))
 
 -- ---- the row here

@@ -5,6 +5,7 @@ use Prim.Native.Nat.{ℕ, _+_, _-_, _<_, _≤_}
 use native.Mathlib.Omega.{arith}
 use lib.ListN.{length, drop, length-map}
 use Rattle.pauli.specs.declared.Pauli.{Pauli}
+use Rattle.sheet.specs.Record.{generatorRoom}
 use Rattle.stabilizer.specs.Canonical.{cleared, insertByPivot}
 use Rattle.elimination.specs.Answers.{rowsIn, reducedOf}
 use Rattle.elimination.specs.Step.{belowPivot}
@@ -79,13 +80,13 @@ below-requires : tie.Need-below-requires Inv-loop μ-loop
 below-requires c κs = c .pre .0
 
 mul-q : tie.Need-mul-q Inv-loop μ-loop
-mul-q c = let few : c .below .result .count < 32 = omega (arith, count-few c, c .before .pre .1) in search needs
+mul-q c = let few : c .below .result .count < generatorRoom = omega (arith, count-few c, c .before .pre .1) in search needs
 
 element-set-from-q : tie.Need-element-set-from-q Inv-loop μ-loop
 element-set-from-q c = omega (arith, count-few c, c .before .pre .1)
 
 add-longer : tie.Need-add-longer Inv-loop μ-loop
-add-longer c = let few : c .below .result .count < 32 = omega (arith, count-few c, c .before .pre .1) in search needs
+add-longer c = let few : c .below .result .count < generatorRoom = omega (arith, count-few c, c .before .pre .1) in search needs
 
 loop-holds : tie.Need-loop-holds Inv-loop μ-loop
 loop-holds c = (count-few c, grown-more (c .before .args .q) (below-q c) (omega (arith, count-few c, c .before .pre .1)))
