@@ -18,8 +18,9 @@ use Rattle.sheet.specs.declared.Family.the-variants.{Generator, LogicalX
 use Rattle.sheet.specs.declared.Refusal.{Refusal}
 use Rattle.sheet.specs.Refusals.{refuseIf}
 
--- RULES, "The record": the sizes. A record has room for so many generators, and for so many logicals of each kind; a sheet has so
--- many qubits at most, a distance up to so much, and so many bytes; an input, with what stands behind the sheet, so many bytes.
+-- RULES, "The record": the sizes. So many generators have room in a record, and so many logicals of each kind; a sheet
+-- has so many qubits, such a distance and so many bytes at most; an input, which may go on behind the sheet, has so
+-- many bytes at most.
 abbrev pub generatorRoom : ℕ
 generatorRoom = 32
 
@@ -38,7 +39,8 @@ longestInput = 4096
 abbrev pub longestSheet : ℕ
 longestSheet = 1352
 
--- RULES, "The sheet": a code of n qubits and r generators has n - r pairs of logicals, and at most n - 1 generators are read.
+-- RULES, "The sheet": a code of n qubits and r generators has n - r pairs of logicals, and at most n - 1 generators are
+-- read.
 unfoldable pub pairCount : ℕ → ℕ → ℕ
 pairCount n r = n - r
 
@@ -61,7 +63,8 @@ logicalXs c = take (logicalCount c) (c .x)
 unfoldable pub logicalZs : Code → List Pauli
 logicalZs c = take (logicalCount c) (c .z)
 
--- RULES, "The record": a family of rows has its array, its places there, the key of its lines, and the byte that begins the key.
+-- RULES, "The record": a family of rows has its array, its places there, the key of its lines, and the byte that begins
+-- the key.
 abbrev pub rowsOf : Family → Code → List Pauli
 rowsOf Generator c = c .g
 rowsOf LogicalX c = c .x
@@ -82,8 +85,8 @@ keyByte Generator = code "g"
 keyByte LogicalX = code "x"
 keyByte LogicalZ = code "z"
 
--- RULES, "The sheet": lines count from 1, and are n, d, the generators, the X logicals, the Z logicals, w. So these lines of a
--- record's written sheet are that of its first generator, of its first X logical, and of w.
+-- RULES, "The sheet": lines count from 1, and are n, d, the generators, the X logicals, the Z logicals, w. So these
+-- lines of a record's written sheet are that of its first generator, of its first X logical, and of w.
 abbrev pub firstGeneratorAt : ℕ
 firstGeneratorAt = 3
 
@@ -142,7 +145,8 @@ isClaim n P = onQubits n P && hasSign Plus P
 unfoldable pub areRows : ℕ → ℕ → List Pauli → Bool
 areRows n m rows = allOf (isRow n) (take m rows) && allOf (samePauli identity) (drop m rows)
 
--- RULES, "The record": its limits. The numbers n, r and d are within their ranges, the rows are rows of n qubits, w has sign +.
+-- RULES, "The record": its limits. The numbers n, r and d are within their ranges, the rows are rows of n qubits, w has
+-- sign +.
 unfoldable pub withinLimits : Code → Bool
 withinLimits c =
     between 2 mostQubits (c .n) && between 1 (mostGenerators (c .n)) (c .r) && between 1 longestDistance (c .d)

@@ -8,7 +8,8 @@ use Rattle.sheet.proofs.is_row.Tie as tie
 
 returns : tie.Need-returns
 unfolding isRow
-returns c = c .is-signed-row .ensures ∙ and-true-l _ (sym (c .before .before .on-qubits .ensures) ∙ c .before .if1 .taken)
+returns c =
+    c .is-signed-row .ensures ∙ and-true-l _ (sym (c .before .before .on-qubits .ensures) ∙ c .before .if1 .taken)
 
 returns-2 : tie.Need-returns-2
 unfolding isRow
