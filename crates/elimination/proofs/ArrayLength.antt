@@ -10,5 +10,6 @@ use Rattle.elimination.specs.declared.ReducedRows.{ReducedRows}
 use Rattle.elimination.proofs.ReducedRows.{the-type}
 use Rattle.elimination.proofs.ReducedRows.Laws.{the-laws}
 
-pub room-of : (hs : ReducedRows) → Is (row the-type) hs (val the-type the-laws hs ∷ []) → length (hs .rows) ≡ generatorRoom
+pub room-of : (hs : ReducedRows) → Is (row the-type) hs (val the-type the-laws hs ∷ [])
+    → length (hs .rows) ≡ generatorRoom
 room-of hs owned = sym (length-map (hs .rows) _) ∙ owned .1 .1 .1 .1 .0 .1 .0 .1

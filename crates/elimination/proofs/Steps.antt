@@ -23,7 +23,8 @@ use Rattle.stabilizer.proofs.StabilizerRows.{Rows}
 use Rattle.stabilizer.proofs.Reduction.{canonical-more}
 use Rattle.elimination.specs.declared.Added.{Added}
 use Rattle.elimination.specs.declared.Kind.{Kind}
-use Rattle.elimination.specs.declared.Kind.the-variants.{Independent as IsIndependent, PlusIdentity, MinusIdentity}
+use Rattle.elimination.specs.declared.Kind.the-variants.{Independent as IsIndependent, PlusIdentity}
+use Rattle.elimination.specs.declared.Kind.the-variants.{MinusIdentity}
 use Rattle.elimination.specs.declared.ReducedRows.{ReducedRows}
 use Rattle.elimination.specs.Answers.{rowsIn, reducedOf}
 use Rattle.elimination.specs.Step.{IsReducedOf, kindOf, addition}
@@ -42,7 +43,9 @@ unfolding reducedFault kindOf
 kind-fault at Q = by (sameMasks Q identity) (samePauli minusIdentity Q)
   where
     by : (none? minus? : Bool)
-        → cond none? (some (cond minus? (Refusal.MinusIdentity at Family.Generator) (Refusal.DependentGenerator at Family.Generator))) none
+        → cond none?
+        (some (cond minus? (Refusal.MinusIdentity at Family.Generator)
+        (Refusal.DependentGenerator at Family.Generator))) none
         ≡ kindFault at (cond none? (cond minus? MinusIdentity PlusIdentity) IsIndependent)
     by true true = refl
     by true false = refl
@@ -58,14 +61,16 @@ independent-left : (Q : Pauli) → kindOf Q ≡ IsIndependent → sameMasks Q id
 unfolding kindOf isNew
 independent-left Q = by (sameMasks Q identity) (samePauli minusIdentity Q)
   where
-    by : (none? minus? : Bool) → cond none? (cond minus? MinusIdentity PlusIdentity) IsIndependent ≡ IsIndependent → none? ≡ false
+    by : (none? minus? : Bool) → cond none? (cond minus? MinusIdentity PlusIdentity) IsIndependent ≡ IsIndependent
+        → none? ≡ false
     by true true e = absurd (false≢true (ap isNew e))
     by true false e = absurd (false≢true (ap isNew e))
     by false minus? e = refl
 
 -- ---- the first rows of an array
 
-all-taken : (S : Pauli → Type 0) (rows : List Pauli) (count place : ℕ) → place ≤ count → count ≤ length rows → All S (take count rows) → All S (take place rows)
+all-taken : (S : Pauli → Type 0) (rows : List Pauli) (count place : ℕ) → place ≤ count → count ≤ length rows
+    → All S (take count rows) → All S (take place rows)
 all-taken S rows count place few room all = all-places S identity (take place rows) at
   where
     at : (i : ℕ) → i < length (take place rows) → S (getD (take place rows) i identity)
@@ -84,7 +89,8 @@ module _ (n line : ℕ) (rows : List Pauli) (count : ℕ) where
 
   pub stepped-none : (hs : ReducedRows) → hs ≡ reducedOf n [] → Stepped 0 hs
   unfolding canonicalGenerators
-  stepped-none hs e = record { held = e; independent = independent-none n; left = fault-start dependence rows count 0 line refl }
+  stepped-none hs e =
+      record { held = e; independent = independent-none n; left = fault-start dependence rows count 0 line refl }
 
   module _ {place : ℕ} {hs : ReducedRows} (s : Stepped place hs) where
     pub stepped-is : IsReducedOf hs
@@ -98,15 +104,18 @@ module _ (n line : ℕ) (rows : List Pauli) (count : ℕ) where
     stepped-end end = sym (fault-end dependence rows count place line end) ∙ s .left
 
     -- One row more, of rows of n qubits that commute.
-    module _ (room : count ≤ length rows) (areRows : Rows n (take count rows)) (commuting : Commuting whole (take count rows))
-        (few : place < count) (P : Pauli) (here : P ≡ getD rows place identity) {step : Added} (stepped : step ≡ addition hs P) where
+    module _ (room : count ≤ length rows) (areRows : Rows n (take count rows))
+        (commuting : Commuting whole (take count rows))
+        (few : place < count) (P : Pauli) (here : P ≡ getD rows place identity) {step : Added}
+        (stepped : step ≡ addition hs P) where
       inside : place < length rows
       inside = omega arith
 
       -- What holds of all the rows holds of this one.
       this : (S : Pauli → Type 0) → All S (take count rows) → S (getD rows place identity)
       this S all =
-          subst S (getD-take count rows place identity few) (all-at S identity (take count rows) all place (omega (arith, length-take count rows)))
+          subst S (getD-take count rows place identity few)
+          (all-at S identity (take count rows) all place (omega (arith, length-take count rows)))
 
       Q : Pauli
       Q = reduced n (canonicalGenerators n (take place rows)) (getD rows place identity)
@@ -115,7 +124,8 @@ module _ (n line : ℕ) (rows : List Pauli) (count : ℕ) where
       unfolding addition reducedOf Q
       kind-is =
           ap (λ r. r .kind) stepped
-          ∙ ap (λ r. kindOf (reduced (r .n) (rowsIn r) P)) (s .held) ∙ ap₂ (λ hs P. kindOf (reduced n hs P)) (rows-of n (canonicalGenerators n (take place rows))) here
+          ∙ ap (λ r. kindOf (reduced (r .n) (rowsIn r) P)) (s .held)
+          ∙ ap₂ (λ hs P. kindOf (reduced n hs P)) (rows-of n (canonicalGenerators n (take place rows))) here
 
       reduced-is : step .reduced ≡ reducedOf n (canonicalGenerators n (take (place + 1) rows))
       unfolding addition reducedOf
@@ -135,15 +145,18 @@ module _ (n line : ℕ) (rows : List Pauli) (count : ℕ) where
 
       -- What is found from here on.
       found : {kind : Kind} → step .kind ≡ kind
-          → (kindFault (line + place) kind then Left dependence rows count (place + 1) line) ≡ firstFault dependence [] line (take count rows)
+          → (kindFault (line + place) kind then Left dependence rows count (place + 1) line)
+          ≡ firstFault dependence [] line (take count rows)
       unfolding Q
       found e =
           ap (λ k. kindFault (line + place) k then Left dependence rows count (place + 1) line) (sym e ∙ kind-is)
           ∙ ap (λ f. f then Left dependence rows count (place + 1) line)
-          (sym (dependence-reduced n (take place rows) (line + place) (getD rows place identity) (s .independent .stabilizer) row ∙ kind-fault (line + place) Q))
+          (sym (dependence-reduced n (take place rows) (line + place) (getD rows place identity)
+          (s .independent .stabilizer) row ∙ kind-fault (line + place) Q))
           ∙ sym (fault-at dependence rows count place line few room) ∙ s .left
 
-      pub stepped-fault : {kind : Kind} {refusal : Refusal} → step .kind ≡ kind → kindFault (line + place) kind ≡ some refusal
+      pub stepped-fault : {kind : Kind} {refusal : Refusal} → step .kind ≡ kind
+          → kindFault (line + place) kind ≡ some refusal
           → some refusal ≡ firstFault dependence [] line (take count rows)
       unfolding _then_
       stepped-fault e f = ap (λ fault. fault then Left dependence rows count (place + 1) line) (sym f) ∙ found e
@@ -155,6 +168,7 @@ module _ (n line : ℕ) (rows : List Pauli) (count : ℕ) where
             held = reduced-is;
             independent =
                 subst (Independent n) (taken-more rows place inside)
-                (independent-more n (take place rows) (getD rows place identity) (s .independent) row commutes-before (independent-left Q (sym kind-is ∙ e)));
+                (independent-more n (take place rows) (getD rows place identity) (s .independent) row commutes-before
+                (independent-left Q (sym kind-is ∙ e)));
             left = found e;
           }

@@ -17,7 +17,8 @@ use Rattle.elimination.specs.Answers.{rowsIn, checkedRefusal, membership
 abbrev pub ContainsDecidesMembership : Type 0
 ContainsDecidesMembership =
     (c : Code) → elimination c .answer ≡ Checked.Passed → (P : Pauli)
-    → reducesToIdentity (elimination c .reduced .n) (rowsIn (elimination c .reduced)) P ≡ inGroupUpToPhase (generators c) P
+    → reducesToIdentity (elimination c .reduced .n) (rowsIn (elimination c .reduced)) P
+    ≡ inGroupUpToPhase (generators c) P
 
 -- RULES, "Refusals": the numbers with which the calls refuse.
 pub record GroupRefusalNumbers : Type 0 where

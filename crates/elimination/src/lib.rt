@@ -1,5 +1,6 @@
-// Elimination on the rows of a record: one step adds a row to rows in reduced echelon form and tells what the row was. 7 and 8, membership in the group and the
-// canonical generators follow from it; 6, which comes before them, compares rows two by two.
+// Elimination on the rows of a record: one step adds a row to rows in reduced echelon form and tells what the row was.
+// 7 and 8, membership in the group and the canonical generators follow from it; 6, which comes before them, compares
+// rows two by two.
 use pauli::Pauli;
 use pauli::Sign;
 use sheet::Code;
@@ -16,9 +17,11 @@ ghost use Rattle.pauli.specs.Lists.{anyOf};
 ghost use Rattle.pauli.specs.Masks.{bits};
 ghost use Rattle.pauli.specs.Product.{identity, anticommutes, modulo4, sameMasks};
 ghost use Rattle.sheet.specs.Record.{generatorRoom, generators, generatorsAt, withinLimits};
-ghost use Rattle.stabilizer.specs.Canonical.{firstOne, column, pivot, cleared, reduced, reducesToIdentity, insertByPivot};
+ghost use Rattle.stabilizer.specs.Canonical.{firstOne, column, pivot, cleared, reduced, reducesToIdentity};
+ghost use Rattle.stabilizer.specs.Canonical.{insertByPivot};
 ghost use Rattle.stabilizer.specs.Checks.{firstFault, clash};
-ghost use Rattle.elimination.specs.Answers.{rowsIn, reducedOf, checkedRefusal, eliminated, elimination, membership};
+ghost use Rattle.elimination.specs.Answers.{rowsIn, reducedOf, checkedRefusal, eliminated, elimination};
+ghost use Rattle.elimination.specs.Answers.{membership};
 ghost use Rattle.elimination.specs.Step.{IsReducedOf, kindOf, belowPivot, addition, independence};
 
 // Rows of n qubits in reduced echelon form, the first `count` of the array; the others are +I.
@@ -270,7 +273,10 @@ fn clash(code: Code) -> Checked
     let mut place: usize = 0;
     while place < count {
         if clashes(code, place) {
-            return Checked::Refused(Refusal::GeneratorsAnticommute(first + place, Family::Generator));
+            return Checked::Refused(Refusal::GeneratorsAnticommute(
+                first + place,
+                Family::Generator,
+            ));
         }
         place += 1;
     }
@@ -318,7 +324,8 @@ fn independence(code: Code) -> Elimination
     }
 }
 
-// The checks of a record's generators, and the canonical generators: 15 where the record is outside its limits, then 6 to 8.
+// The checks of a record's generators, and the canonical generators: 15 where the record is outside its limits, then 6
+// to 8.
 pub fn eliminate(code: Code) -> Elimination
     ensures { λ r. ⌜ r ≡ elimination code ⌝ }
 {

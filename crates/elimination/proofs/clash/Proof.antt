@@ -1,5 +1,5 @@
--- 6 is found at the first row that clashes with one before it: the rows are tried in turn, and what the check finds from
--- here on is what it finds from the beginning.
+-- 6 is found at the first row that clashes with one before it: the rows are tried in turn, and what the check finds
+-- from here on is what it finds from the beginning.
 use mathlib.Core.Bool.{Bool}
 use mathlib.Core.List.{[]}
 use mathlib.Core.Option.{Option}
@@ -105,7 +105,8 @@ clash-spec =
     (λ c κs. search needs)
     loop-holds
     clashes-requires
-    (λ c. let s = start (at (c .before)) in record { fits = omega (arith, count-few s, line-small s, c .before .before .loop-test .taken) })
+    (λ c. let s = start (at (c .before)) in
+    record { fits = omega (arith, count-few s, line-small s, c .before .before .loop-test .taken) })
     returns
     (λ c. search needs)
     (λ c. search needs)

@@ -21,7 +21,8 @@ passes : (c : tie.After-enum-told) → let code = c .before .before .before .bef
 passes c = ap checkedRefusal (sym (c .enum-told .given .1)) ∙ c .before .before .clash .ensures
 
 returns : tie.Need-returns
-returns c = c .refused .ensures ∙ outside-limits _ (failed (c .before .before .within-limits .ensures) (c .before .if1 .taken))
+returns c = c .refused .ensures
+    ∙ outside-limits _ (failed (c .before .before .within-limits .ensures) (c .before .if1 .taken))
 
 clash-requires : tie.Need-clash-requires
 clash-requires c κs = within c

@@ -22,7 +22,8 @@ use Rattle.elimination.specs.declared.Elimination.{Elimination}
 use Rattle.elimination.specs.declared.Kind.{Kind}
 use Rattle.elimination.specs.Answers.{reducedOf, eliminated}
 use Rattle.elimination.specs.Step.{independence}
-use Rattle.elimination.proofs.Steps.{kindFault, Stepped, stepped-none, stepped-is, stepped-count, stepped-end, stepped-fault, stepped-more}
+use Rattle.elimination.proofs.Steps.{kindFault, Stepped, stepped-none, stepped-is, stepped-count, stepped-end}
+use Rattle.elimination.proofs.Steps.{stepped-fault, stepped-more}
 use borrow.Author.Needs.{needs}
 use Rattle.elimination.proofs.independence.Statement.{statement}
 use Rattle.elimination.proofs.independence.Tie as tie
@@ -56,7 +57,8 @@ module _ (c : tie.After-generators-at Inv-loop μ-loop) where
       omega (arith, l .qubits, l .generatorCount, sized-of code (c .before .good .0) .roomG)
 
   are-rows : Rows (code .n) (take (code .r) (code .g))
-  are-rows = all-of (isRow (code .n)) (take (code .r) (code .g)) .0 (limits code (c .before .pre .0) .generatorRows .used)
+  are-rows =
+      all-of (isRow (code .n)) (take (code .r) (code .g)) .0 (limits code (c .before .pre .0) .generatorRows .used)
 
   commuting : Commuting whole (take (code .r) (code .g))
   unfolding generators
@@ -124,10 +126,12 @@ add-requires c κs =
     )
 
 returns : tie.Need-returns Inv-loop μ-loop
-returns c = let told = c .before in faulty (told .before .before) (told .enum-told2 .given .1) refl (c .refused .ensures)
+returns c = let told = c .before in
+    faulty (told .before .before) (told .enum-told2 .given .1) refl (c .refused .ensures)
 
 returns-2 : tie.Need-returns-2 Inv-loop μ-loop
-returns-2 c = let told = c .before in faulty (told .before .before) (told .enum-told3 .given .1) refl (c .refused2 .ensures)
+returns-2 c = let told = c .before in
+    faulty (told .before .before) (told .enum-told3 .given .1) refl (c .refused2 .ensures)
 
 loop-again : tie.Need-loop-again Inv-loop μ-loop
 loop-again c = let told = c .before in (search needs, grown (told .before .before) (told .enum-told .given .1))

@@ -15,7 +15,8 @@ use Rattle.elimination.proofs.ReducedRows.reduce.Statement.{statement}
 use Rattle.elimination.proofs.ReducedRows.reduce.Tie as tie
 
 abbrev Inv-loop : tie.InvT-loop
-Inv-loop self n count left₀ place₀ left place = reduced n (drop place (rowsIn self)) left ≡ reduced n (rowsIn self) left₀
+Inv-loop self n count left₀ place₀ left place =
+    reduced n (drop place (rowsIn self)) left ≡ reduced n (rowsIn self) left₀
 
 abbrev μ-loop : tie.MeasureT-loop
 μ-loop self n count left₀ place₀ left place = count - place
@@ -38,7 +39,8 @@ loop-again c =
     let at = turn .before .before in
     let a = at .before .args in
     ap (reduced (a .t1 .n) (drop (at .loop .place + 1) (rowsIn (a .t1)))) (c .cleared .ensures)
-    ∙ sym (reduced-at (a .t1) (at .loop .place) (a .t1 .n) (at .loop .left) (few turn) (omega (arith, room at))) ∙ at .loop .inv
+    ∙ sym (reduced-at (a .t1) (at .loop .place) (a .t1 .n) (at .loop .left) (few turn) (omega (arith, room at)))
+    ∙ at .loop .inv
 
 returns : tie.Need-returns Inv-loop μ-loop
 returns c =
