@@ -19,7 +19,7 @@ use Rattle.sheet.proofs.Limits.{all-first}
 use Rattle.sheet.specs.declared.Code.{Code}
 use Rattle.sheet.specs.declared.Family.{Family}
 use Rattle.sheet.specs.declared.Family.the-variants.{Generator, LogicalX, LogicalZ}
-use Rattle.sheet.specs.Record.{rowsOf, roomOf, isRow, areRows}
+use Rattle.sheet.specs.Record.{mostQubits, rowsOf, roomOf, isRow, areRows}
 use Rattle.sheet.specs.Statements.{Sized}
 
 -- ---- `a && b`: b where a holds, a where it does not
@@ -46,7 +46,7 @@ eqb-swap m k = swapped (eqb m k) refl
 
 -- ---- one row
 
-pub shifted-one : (n : ℕ) → n ≤ 24 → 1 * 2 ^ n % 4294967296 ≡ 2 ^ n
+pub shifted-one : (n : ℕ) → n ≤ mostQubits → 1 * 2 ^ n % 4294967296 ≡ 2 ^ n
 shifted-one n h = shl-exact 1 n 32 (omega arith) (omega arith) ∙ one-mul (2 ^ n)
 
 pub same-identity : (P : Pauli) → samePauli identity P ≡ (eqb (P .p % 4) 0 && (eqb (P .a) 0 && eqb (P .b) 0))

@@ -17,7 +17,8 @@ use Rattle.sheet.specs.declared.Code.{Code}
 use Rattle.sheet.specs.declared.Refusal.{Refusal}
 use Rattle.sheet.specs.Reader.{got, done, continue, begins, readNumber, readLetters, readRow, inRange}
 use Rattle.sheet.specs.Reader.{qubitDigits, qubitLine, distanceLine, rowLine, rowsUpTo, countedGenerators}
-use Rattle.sheet.specs.Reader.{generatorLines, countedLogicals, logicalLines, claimLine, linesAfter, sheetLines, readLines}
+use Rattle.sheet.specs.Reader.{generatorLines, countedLogicals, logicalLines, claimLine, linesAfter}
+use Rattle.sheet.specs.Reader.{sheetLines, readLines}
 use Rattle.sheet.specs.Record.{generatorRoom, logicalRoom, mostQubits, longestDistance, longestInput}
 use Rattle.sheet.specs.Record.{mostGenerators, pairCount, logicalCount, generatorsAt, logicalsAt, claimAt}
 use Rattle.sheet.specs.Record.{firstGeneratorAt, codeOf, generators, logicalXs, logicalZs, isRow, isClaim}

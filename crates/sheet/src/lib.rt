@@ -10,22 +10,25 @@ ghost use Rattle.sheet.specs.Record.{mostQubits, pairCount, mostGenerato
 ghost use Rattle.sheet.specs.Record.{rowsOf, roomOf, keyByte, emptyCode};
 ghost use Rattle.sheet.specs.Record.{between, onQubits, isRow, isClaim, areRows, withinLimits};
 
-// The room of a record's arrays: for the generators, and for the logicals of each kind.
+// How many generators a record has room for.
 pub const GENERATOR_ROOM: usize = 32;
 
+// How many logicals of each kind it has room for.
 pub const LOGICAL_ROOM: usize = 24;
 
-// The most qubits and the longest distance that a sheet may have.
+// The most qubits of a code.
 pub const MOST_QUBITS: usize = 24;
 
+// The longest distance that may be claimed.
 pub const MOST_DISTANCE: usize = 7;
 
-// The most bytes that an input has, and a sheet.
+// The most bytes of an input, a sheet and what stands behind it.
 pub const LONGEST_INPUT: usize = 4096;
 
+// The most bytes of a sheet.
 pub const LONGEST_SHEET: usize = 1352;
 
-// The line of the first generator.
+// The line of a sheet on which the first generator stands.
 pub const FIRST_GENERATOR_AT: usize = 3;
 
 // How many pairs of logicals a code of n qubits and r generators has.
@@ -43,8 +46,8 @@ pub fn most_generators(n: usize) -> usize
 }
 
 // The code that a sheet describes: n qubits, r generators, claimed distance d. The first r rows of g are the
-// generators, the first n - r of x and of z the logical operators, and w is the claimed minimum-weight logical. Unused
-// rows are +I.
+// generators, the first rows of x and of z the pairs of logical operators, and w is the claimed minimum-weight logical.
+// Unused rows are +I.
 pub struct Code {
     pub n: usize,
     pub r: usize,
@@ -311,22 +314,24 @@ pub struct RefusalValues {
 }
 
 impl RefusalValues {
+    // Of a refusal that is about no row.
     fn plain(number: u32, line: usize) -> RefusalValues
         ensures { λ r. ⌜ r ≡ answeredValues (plain number line) ⌝ }
     {
         RefusalValues {
-            number: number,
-            line: line,
+            number,
+            line,
             family: RowFamily::NoRow,
         }
     }
 
+    // Of one about a row of a family.
     fn of_row(number: u32, line: usize, family: Family) -> RefusalValues
         ensures { λ r. ⌜ r ≡ answeredValues (ofRow number line family) ⌝ }
     {
         RefusalValues {
-            number: number,
-            line: line,
+            number,
+            line,
             family: RowFamily::Row(family),
         }
     }

@@ -1,4 +1,4 @@
--- The masks are tried first, then the phase.
+-- Whether a Pauli is a row of n qubits: the masks are tried first, then the phase.
 use mathlib.Core.Path.{sym, _∙_}
 use Rattle.sheet.specs.Record.{isRow}
 use Rattle.sheet.proofs.RowLimits.{and-true-l, and-false-l}

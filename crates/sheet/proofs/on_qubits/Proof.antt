@@ -1,4 +1,4 @@
--- The two masks are tried in turn.
+-- Whether a Pauli has no bit above qubit n: the two masks are tried in turn.
 use mathlib.Core.Bool.{_&&_}
 use mathlib.Core.Path.{ap, _∙_}
 use borrow.Author.Tests.{lt-ltb, le-ltb}

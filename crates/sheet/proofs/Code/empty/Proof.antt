@@ -1,4 +1,4 @@
--- An array of one value is that value, written out as often as the array has places.
+-- The empty record: an array of one value is that value, written out as often as the array has places.
 use mathlib.Core.Path.{ap}
 use lib.ListN.{replicate}
 use Rattle.sheet.specs.Record.{generatorRoom, logicalRoom, emptyCode}

@@ -1,4 +1,4 @@
--- The family decides the array; behind its end there is no row.
+-- The row at a place: the family decides the array, and behind its end there is no row.
 use mathlib.Core.Logic.{⊎-elim}
 use mathlib.Core.Path.{_≡_, ap, sym, _∙_}
 use Prim.Native.Nat.{ℕ, _≤_}

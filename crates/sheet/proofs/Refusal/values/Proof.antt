@@ -1,4 +1,4 @@
--- Each case says what the table has for it: the arm's call gives the values of that case, and self is the case.
+-- What a refusal says: the call of each arm gives the values of its case, and self is that case.
 use mathlib.Core.Path.{_≡_, ap, sym, _∙_}
 use Rattle.sheet.specs.declared.Refusal.{Refusal}
 use Rattle.sheet.specs.declared.RefusalValues.{RefusalValues}
