@@ -28,7 +28,7 @@ use Rattle.admission.specs.Distance.{LogicalError, distanceFault}
 use Rattle.admission.specs.Distance.{claimedWeightFault, claimedDetectedFault, claimedInGroupFault}
 use Rattle.admission.specs.Logicals.{detectedFault, pairingFault}
 use Rattle.admission.specs.Statements.{AdmittedSheetReturns, AdmittedDistanceIsTrue}
-use Rattle.admission.proofs.Light.{logical-errors-weigh-d}
+use Rattle.admission.proofs.BelowDistance.{logical-errors-weigh-d}
 
 -- ---- a sheet read by itself
 

@@ -24,7 +24,7 @@ use Rattle.sheet.proofs.Limits.{on-qubits, limits}
 use Rattle.stabilizer.specs.Group.{InGroupUpToPhase}
 use Rattle.stabilizer.proofs.Columns.{product-on-qubits}
 use Rattle.admission.specs.Distance.{distanceFault}
-use Rattle.admission.proofs.Light.{light-in-group}
+use Rattle.admission.proofs.BelowDistance.{light-in-group}
 use Rattle.admission.proofs.Masks.{syndrome-by-masks, string-on-qubits, letters-keep-masks}
 use Rattle.decoder.specs.Correction.{correction}
 use Rattle.decoder.specs.Statements.{Candidate, IsCorrected}

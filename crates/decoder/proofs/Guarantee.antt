@@ -30,7 +30,7 @@ use Rattle.admission.specs.Distance.{LogicalError, logicalErrorUpTo, refutingPa
 use Rattle.admission.proofs.Admitted.{admitted-as, admitted-lawful, no-distance-fault, form-lawful, read-by-distance}
 use Rattle.admission.proofs.Earliest.{logical-error-is-earliest}
 use Rattle.admission.proofs.Halves.{Dealt, dealt-halves, dealt-lengths, dealt-weights, dealt-product}
-use Rattle.admission.proofs.Light.{logical-errors-weigh-d}
+use Rattle.admission.proofs.BelowDistance.{logical-errors-weigh-d}
 use Rattle.admission.proofs.Masks.{commutes-by-masks, in-group-by-masks, string-on-qubits}
 use Rattle.decoder.specs.Statements.{ErrorsAreCorrected, Refutes, Refuted, RefusedForDistance, Shows}
 use Rattle.decoder.specs.Statements.{DistanceIsDecided, Guarantee}

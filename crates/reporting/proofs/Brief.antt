@@ -25,11 +25,11 @@ use Rattle.admission.specs.Logicals.{logicals, detected, mispaired, detectedFau
 use Rattle.admission.proofs.Numbers.{mapped-lawful}
 use Rattle.reporting.specs.Report.{errorsText}
 
--- No line has a higher number: a sheet has 51 lines at most, and each line behind it has a byte of the 4,096.
+-- No line has a higher number: a sheet has 50 lines at most, and each line behind it has a byte of the 4,096.
 abbrev pub lastLine : ℕ
 lastLine = 5000
 
--- The errors are two lines of at most 24 letters.
+-- The errors are two lines of at most 24 letters, with a key and a line feed each.
 pub record Brief (refusal : Refusal) : Type 0 where
   pub number : values refusal .number ≤ 17
   pub line : values refusal .line ≤ lastLine
@@ -80,7 +80,7 @@ module _ (c : Code) (sized : Sized c) (within : Limits c) where
   pairing-brief =
       first-brief (mispaired c) (λ before at P h. refuseIf-lawful _ _ (brief _ (lit≤ tt) h refl)) [] _ _ logicals-few
 
-  pub claim-few : claimAt c ≤ 60
+  pub claim-few : claimAt c ≤ 50
   unfolding generatorsAt logicalsAt claimAt pairCount logicalCount
   claim-few = omega arith
 

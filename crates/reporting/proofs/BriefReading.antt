@@ -99,7 +99,7 @@ logical-lines-brief k key n at s few =
 
 -- What is known beforehand is known of what was read.
 module _ {Known : Type 0} (known : Known) where
-  lines-after-brief : (n d at : ℕ) (gs : List Pauli) (s : List ℕ) → n ≤ mostQubits → at ≤ 60
+  lines-after-brief : (n d at : ℕ) (gs : List Pauli) (s : List ℕ) → n ≤ mostQubits → at + 2 * mostQubits ≤ lastLine
       → Outcome (λ q rest. Known) Brief (linesAfter n d at gs s)
   unfolding linesAfter pairCount done
   lines-after-brief n d at gs s few near =

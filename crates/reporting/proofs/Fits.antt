@@ -4,7 +4,7 @@ use mathlib.Core.Bool.{Bool, true, false}
 use mathlib.Core.List.{List, [], _∷_, _++_, flatMap}
 use mathlib.Core.Option.{Option, none, some}
 use mathlib.Core.Path.{_≡_, refl, ap}
-use Prim.Native.Nat.{ℕ, zero, suc, _+_, _-_, _*_, _/_, _%_, _≤_}
+use Prim.Native.Nat.{ℕ, zero, suc, _+_, _*_, _/_, _%_, _≤_}
 use native.Mathlib.Nat.{mul-le-mul}
 use native.Mathlib.Omega.{arith}
 use lib.Dec.{lit≤, ltb}
@@ -15,7 +15,7 @@ use Rattle.pauli.specs.Lists.{bytes}
 use Rattle.sheet.specs.declared.Code.{Code}
 use Rattle.sheet.specs.declared.Refusal.{Refusal}
 use Rattle.sheet.specs.Reader.{SheetRead, Parsed, got, stop, readLines}
-use Rattle.sheet.specs.Record.{generators, pairCount, logicalCount, radius, longestInput}
+use Rattle.sheet.specs.Record.{generators, pairCount, logicalCount, radius, mostQubits, longestInput}
 use Rattle.sheet.specs.Refusals.{values}
 use Rattle.sheet.specs.Statements.{Sized, ReadIsLawful}
 use Rattle.sheet.specs.Text.{digitsOf, decimal}
@@ -80,6 +80,8 @@ length-no-correction c bits e = rw (length-line, e)
 
 -- ---- a report that is no refusal
 
+-- At most 23 canonical generators, of 24 letters with a sign, a key and a line feed; and `c=` lines of 24 letters
+-- with a key and a line feed.
 module _ (c : Code) (sized : Sized c) (within : Limits c) where
   canonical-few : length (canonicalText c) ≤ 644
   unfolding canonicalText bytes
@@ -87,7 +89,7 @@ module _ (c : Code) (sized : Sized c) (within : Limits c) where
       let hs = canonicalGenerators (c .n) (generators c) in
       let count = canonical-generators-are-counted .few (c .n) (generators c) in
       let r = length-generators c sized within in
-      let few : (length hs ≤ 23) × (c .n ≤ 24) = omega (arith, within .qubits, within .generatorCount) in
+      let few : (length hs ≤ 23) × (c .n ≤ mostQubits) = omega (arith, within .qubits, within .generatorCount) in
       let rows : length hs * (c .n + 4) ≤ 23 * 28 = mul-le-mul {n₂ = 23} {m₂ = 28} (few .0) (omega arith) in
       rw (length-rowLines "h=" (c .n) hs refl) rows
 
@@ -100,9 +102,9 @@ module _ (c : Code) (sized : Sized c) (within : Limits c) where
         within .qubits,
         within .distance,
         decimal-few (c .n),
-        decimal-few (c .n - c .r),
+        decimal-few (logicalCount c),
         decimal-few (c .d),
-        decimal-few ((c .d - 1) / 2),
+        decimal-few (radius c),
         canonical-few,
       ))
 

@@ -23,7 +23,7 @@ use Rattle.admission.specs.Admission.{AdmissibleButForDistance, codeFault, read
 use Rattle.admission.specs.Distance.{distanceFault}
 use Rattle.admission.specs.Statements.{ShowsEarliest}
 use Rattle.admission.proofs.Admitted.{admitted-as}
-use Rattle.admission.proofs.Pair.{refusal-is-distance-fault, refuting-pair-is-from-earliest}
+use Rattle.admission.proofs.RefutingPair.{refusal-is-distance-fault, refuting-pair-is-from-earliest}
 use Rattle.decoder.specs.Statements.{IsCorrected, Refutes, RefusedForDistance, Shows}
 use Rattle.decoder.proofs.Bits.{syndromes-have-r-bits}
 use Rattle.decoder.proofs.Guarantee.{errors-are-corrected, distance-is-decided}

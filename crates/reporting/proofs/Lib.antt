@@ -8,6 +8,6 @@ pub mod BriefReading
 pub mod Fits
 pub mod Call
 pub mod Guarantee
-pub mod Every
+pub mod EveryReport
 pub mod Starred
 pub mod Examples
