@@ -5,6 +5,7 @@ pub mod Halves
 pub mod Admitted
 pub mod Written
 pub mod RefutingPair
+pub mod Refusals
 pub mod Numbers
 pub mod Phases
 pub mod Starred
