@@ -21,15 +21,15 @@ use Rattle.stabilizer.specs.Group.{InGroupUpToPhase, inGroupUpToPhase}
 
 -- Each of the four checks is given the line that w stands on, and names it.
 
--- RULES, "Admission": 11, w has not the weight d.
+-- RULES, "Admission": 11 where the weight of w is not d.
 unfoldable pub claimedWeightFault : ℕ → Code → Option Refusal
 claimedWeightFault at c = refuseIf (not (eqb (weight (c .w)) (c .d))) (Refusal.ClaimedWeight at)
 
--- RULES, "Admission": 12, w anticommutes with a generator.
+-- RULES, "Admission": 12 where w anticommutes with a generator.
 unfoldable pub claimedDetectedFault : ℕ → Code → Option Refusal
 claimedDetectedFault at c = refuseIf (anyOf (anticommutes (c .w)) (generators c)) (Refusal.ClaimedAnticommutes at)
 
--- RULES, "Admission": 13, w is in the group, phase aside.
+-- RULES, "Admission": 13 where w is in the group, phase aside.
 unfoldable pub claimedInGroupFault : ℕ → Code → Option Refusal
 claimedInGroupFault at c = refuseIf (inGroupUpToPhase (generators c) (c .w)) (Refusal.ClaimedInGroup at)
 
@@ -70,7 +70,7 @@ refutingPair n s =
     let half = (weightOf s + 1) / 2 in
     record { n = n; e = ofLetters (firstLetters half s); f = ofLetters (otherLetters half s) }
 
--- RULES, "Distance": 14, there is a logical error of weight below d.
+-- RULES, "Distance": 14 where there is a logical error of weight below d.
 unfoldable pub distanceFault : ℕ → Code → Option Refusal
 distanceFault at c =
     Option·map (λ s. Refusal.DistanceRefuted at (refutingPair (c .n) s)) (logicalErrorUpTo c (c .d - 1))

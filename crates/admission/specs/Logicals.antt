@@ -22,7 +22,7 @@ logicals c = logicalXs c ++ logicalZs c
 unfoldable pub familyAfter : ℕ → List Pauli → Family
 familyAfter k before = cond (ltb (length before) k) Family.LogicalX Family.LogicalZ
 
--- RULES, "Admission": 9, a logical anticommutes with a generator.
+-- RULES, "Admission": 9 where a logical anticommutes with a generator.
 unfoldable pub detected : Code → List Pauli → ℕ → Pauli → Option Refusal
 detected c before at P =
     refuseIf (anyOf (anticommutes P) (generators c))
@@ -35,7 +35,7 @@ pairsWrongly k m j [] P = false
 pairsWrongly k m j (Q ∷ earlier) P =
     cond (eqb m (j + k)) (commutes P Q) (anticommutes P Q) || pairsWrongly k m (suc j) earlier P
 
--- RULES, "Admission": 10, a logical pairs wrongly with an earlier one.
+-- RULES, "Admission": 10 where a logical pairs wrongly with an earlier one.
 unfoldable pub mispaired : Code → List Pauli → ℕ → Pauli → Option Refusal
 mispaired c before at P =
     refuseIf (pairsWrongly (logicalCount c) (length before) 0 before P)

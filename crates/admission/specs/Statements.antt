@@ -53,7 +53,7 @@ pub record FindsFirst (Before : StringOrder) (Wanted : List Letter → Type 0) (
         → Wanted s × ((t : List Letter) → Wanted t → (t ≡ s) ⊎ Before s t)
     pub missing : answer ≡ none → (s : List Letter) → Wanted s → ⊥
 
--- The strings among which a logical error is looked for: n letters, weight at most v.
+-- The strings that the search is for: logical errors of n letters, of weight at most v.
 pub record LogicalString (c : Code) (v : ℕ) (s : List Letter) : Type 0 where
   pub letters : length s ≡ c .n
   pub light : weightOf s ≤ v
@@ -81,7 +81,7 @@ pub record PlusRow (n : ℕ) (P : Pauli) : Type 0 where
   pub onCode : onQubits n P ≡ true
   pub plus : ofLetters (lettersOf n P) ≡ P
 
--- Two rows with sign + that weigh together as much as s, the first half of it, rounded up.
+-- Two rows with sign + that together weigh as much as s, the first of them half of that, rounded up.
 pub record Halves (n : ℕ) (s : List Letter) (E F : Pauli) : Type 0 where
   pub rowE : PlusRow n E
   pub rowF : PlusRow n F
