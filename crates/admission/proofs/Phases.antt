@@ -1,12 +1,11 @@
 -- An admitted code that is written is read and admitted again: what is read has the phases modulo 4, and no check
 -- sees the difference, since products, commuting and the group are the same of rows with phases modulo 4.
-use mathlib.Core.Bool.{true, cond, _&&_, _||_}
+use mathlib.Core.Bool.{true, _&&_}
 use mathlib.Core.List.{List, [], _∷_, _++_, map, map-append, append-nil}
 use mathlib.Core.Option.{Option}
 use mathlib.Core.Path.{_≡_, refl, ap, ap₂, sym, fun-ext, _∙_}
 use Prim.Native.Nat.{ℕ, zero, suc, _+_, _/_, _≤_}
 use native.Mathlib.Omega.{arith}
-use lib.Dec.{eqb}
 use lib.ListN.{length, take, length-map}
 use Rattle.pauli.specs.declared.Pauli.{Pauli}
 use Rattle.pauli.specs.Letters.{ofLetters}
@@ -103,8 +102,7 @@ pairs-modulo4 : (k m j : ℕ) (earlier : List Pauli) (P : Pauli)
     → pairsWrongly k m j (map modulo4 earlier) (modulo4 P) ≡ pairsWrongly k m j earlier P
 unfolding pairsWrongly anticommutes commutes symplectic modulo4
 pairs-modulo4 k m j [] P = refl
-pairs-modulo4 k m j (Q ∷ earlier) P =
-    ap (λ b. cond (eqb m (j + k)) (commutes P Q) (anticommutes P Q) || b) (pairs-modulo4 k m (suc j) earlier P)
+pairs-modulo4 k m j (Q ∷ earlier) P = rw (pairs-modulo4 k m (suc j) earlier P)
 
 -- ---- the checks of a record
 

@@ -11,7 +11,6 @@ use Rattle.sheet.specs.declared.Code.{Code}
 use Rattle.sheet.specs.declared.Family.{Family}
 use Rattle.sheet.specs.declared.Refusal.{Refusal}
 use Rattle.sheet.specs.Record.{generators, generatorsAt, logicalsAt}
-use Rattle.sheet.specs.Refusals.{_then_}
 use Rattle.sheet.proofs.Numbers.{IfRefused, refuseIf-lawful, then-lawful}
 use Rattle.stabilizer.specs.Checks.{firstFault, clash, dependence, generatorFault}
 use Rattle.admission.specs.Admission.{faultButDistance, codeFault}
@@ -78,12 +77,17 @@ module _ (at : ℕ) (c : Code) where
   pairing-refuses =
       along-rows (mispaired c) (λ before line P h. refuseIf-lawful _ _ (OfChecks.ten h)) [] _ _ (omega arith)
 
-  claim-refuses : IfRefused (OfChecks at c)
-      (claimedWeightFault at c then claimedDetectedFault at c then claimedInGroupFault at c)
-  unfolding claimedWeightFault claimedDetectedFault claimedInGroupFault
-  claim-refuses =
-      then-lawful (refuseIf-lawful _ _ OfChecks.eleven)
-      (then-lawful (refuseIf-lawful _ _ OfChecks.twelve) (refuseIf-lawful _ _ OfChecks.thirteen))
+  weight-refuses : IfRefused (OfChecks at c) (claimedWeightFault at c)
+  unfolding claimedWeightFault
+  weight-refuses = refuseIf-lawful _ _ OfChecks.eleven
+
+  anticommuting-refuses : IfRefused (OfChecks at c) (claimedDetectedFault at c)
+  unfolding claimedDetectedFault
+  anticommuting-refuses = refuseIf-lawful _ _ OfChecks.twelve
+
+  membership-refuses : IfRefused (OfChecks at c) (claimedInGroupFault at c)
+  unfolding claimedInGroupFault
+  membership-refuses = refuseIf-lawful _ _ OfChecks.thirteen
 
   distance-refuses : IfRefused (OfChecks at c) (distanceFault at c)
   unfolding distanceFault
@@ -97,7 +101,9 @@ module _ (at : ℕ) (c : Code) where
   pub checks-refuse : IfRefused (OfChecks at c) (codeFault at c)
   unfolding codeFault faultButDistance generatorFault
   checks-refuse =
-      then-lawful
-      (then-lawful (then-lawful clash-refuses dependence-refuses)
-      (then-lawful detected-refuses (then-lawful pairing-refuses claim-refuses)))
-      distance-refuses
+      let from12 = then-lawful anticommuting-refuses membership-refuses in
+      let from11 = then-lawful weight-refuses from12 in
+      let from10 = then-lawful pairing-refuses from11 in
+      let from9 = then-lawful detected-refuses from10 in
+      let from6 = then-lawful (then-lawful clash-refuses dependence-refuses) from9 in
+      then-lawful from6 distance-refuses

@@ -26,7 +26,7 @@ use Rattle.reporting.proofs.Report.{syndromes-are-reported}
 module _ (c c′ : Code) (same : SameCode c c′) where
   same-code-text : codeText c ≡ codeText c′
   unfolding codeText logicalCount pairCount radius canonicalText
-  same-code-text = rw (same .generated, same .qubits, same .rows, same .distance)
+  same-code-text = cc (same .generated, same .qubits, same .rows, same .distance)
 
   same-correction-line : (bits : List Bool) → correctionLine c bits ≡ correctionLine c′ bits
   unfolding correctionLine correction hasSyndrome radius
