@@ -1,4 +1,5 @@
--- Other sheets read by themselves, computed: published codes, and sheets with two faults, of which the first in the table of 01 is the answer.
+-- Other sheets read by themselves, computed: published codes, and sheets with two faults, of which the one that is
+-- checked first is the answer.
 use mathlib.Core.List.{List, [], _∷_, List·Memᴰ}
 use mathlib.Core.Path.{_≡_, refl}
 use Prim.Native.String.{String}
@@ -21,10 +22,11 @@ record Entry : Type 0 where
 
 others : List Entry
 others =
-    -- ZZ on qubits 1 and 2 has weight 2, commutes with every generator, and is no logical error, since it is a generator.
+    -- ZZ on qubits 1 and 2 commutes with every generator and is lighter than d, and is no logical error: it is a
+    -- generator.
     record { sheet = nineQubits; answer = Admission.Admitted }
     ∷ record { sheet = eightQubits; answer = Admission.Admitted }
-    -- As printed, the two X rows anticommute. 9 runs over all rows before 10 begins, so it is met at the last row first.
+    -- As printed, the two X rows anticommute. 9 runs over all rows before 10 begins, so with another last row it is 9.
     ∷ record { sheet = fourQubits "+IXZZ"; answer = Admission.Refused (Refusal.LogicalPairing 6 Family.LogicalX) }
     ∷ record { sheet = fourQubits "+IXII"; answer = Admission.Refused (Refusal.LogicalAnticommutes 8 Family.LogicalZ) }
     -- 6, and 7, before 9 and 10
@@ -37,13 +39,18 @@ others =
       answer = Admission.Refused (Refusal.MinusIdentity 5 Family.Generator);
     }
     -- 10 before 11, and 11 before 12 and 13
-    ∷ record { sheet = fiveQubits "3" "+XXXXX" "+XXXXX" "XXXXX"; answer = Admission.Refused (Refusal.LogicalPairing 8 Family.LogicalZ) }
+    ∷ record {
+      sheet = fiveQubits "3" "+XXXXX" "+XXXXX" "XXXXX";
+      answer = Admission.Refused (Refusal.LogicalPairing 8 Family.LogicalZ);
+    }
     ∷ record { sheet = fiveQubits "3" "+XXXXX" "+ZZZZZ" "XIIII"; answer = Admission.Refused (Refusal.ClaimedWeight 9) }
     ∷ record { sheet = fiveQubits "3" "+XXXXX" "+ZZZZZ" "XZZXI"; answer = Admission.Refused (Refusal.ClaimedWeight 9) }
     -- The heaviest error that refutes a distance d has weight d - 1. Of one letter, F has none.
     ∷ record {
       sheet = "n=2\nd=2\ng=+ZZ\nx=+XX\nz=+ZI\nw=XX\n";
-      answer = Admission.Refused (Refusal.DistanceRefuted 6 (record { n = 2; e = ofLetters (I ∷ Z ∷ []); f = ofLetters (I ∷ I ∷ []) }));
+      answer =
+          Admission.Refused
+          (Refusal.DistanceRefuted 6 (record { n = 2; e = ofLetters (I ∷ Z ∷ []); f = ofLetters (I ∷ I ∷ []) }));
     }
     ∷ []
 

@@ -1,4 +1,5 @@
--- Letters dealt out to two strings, I in the other: the weights add up, and the product is the string, phase aside.
+-- Letters dealt out to two strings, with I in the other: the weights add up, and the product has the masks of the whole
+-- string. Both go letter by letter along the dealing, and to halve a string is one dealing.
 use mathlib.Core.List.{List, [], _∷_}
 use mathlib.Core.Path.{_≡_, refl, ap₂, _∙_}
 use Prim.Native.Nat.{ℕ, zero, suc, _+_, _-_, _*_, _/_, _%_, _<_}
@@ -16,6 +17,7 @@ use Rattle.pauli.proofs.Product.{pauli}
 use Rattle.stabilizer.proofs.Generated.{masksOf}
 use Rattle.admission.specs.Distance.{firstLetters, otherLetters}
 
+-- Each letter of the first string stands in one of the two others.
 pub data Dealt : List Letter → List Letter → List Letter → Type 0 where
   ended : Dealt [] [] []
   left : {l : Letter} {s e f : List Letter} → Dealt s e f → Dealt (l ∷ s) (l ∷ e) (I ∷ f)

@@ -1,9 +1,11 @@
+pub mod Masks
 pub mod Earliest
-pub mod Light
+pub mod BelowDistance
 pub mod Halves
 pub mod Admitted
 pub mod Written
-pub mod Pair
+pub mod RefutingPair
+pub mod Refusals
 pub mod Numbers
 pub mod Phases
 pub mod Starred

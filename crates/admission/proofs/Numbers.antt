@@ -1,29 +1,25 @@
--- The numbers with which a sheet is refused: those of its form, 1 to 5, and those of its checks, 6 to 14.
+-- A sheet is refused with 1 to 5, for its form, or with 6 to 14, by its checks: the refusals of both are known one by
+-- one.
 use mathlib.Core.Bool.{_||_}
 use mathlib.Core.List.{List, [], _∷_}
-use mathlib.Core.Option.{Option, none, some, Option·map}
+use mathlib.Core.Option.{Option}
 use mathlib.Core.Path.{refl, ap, _∙_}
 use Prim.Native.Nat.{ℕ}
 use lib.Dec.{eqb}
 use Rattle.pauli.specs.Lists.{anyOf}
 use Rattle.sheet.specs.declared.Code.{Code}
 use Rattle.sheet.specs.declared.Refusal.{Refusal}
-use Rattle.sheet.specs.Reader.{Parsed}
-use Rattle.sheet.specs.Record.{generators}
-use Rattle.sheet.specs.Refusals.{values, _then_}
+use Rattle.sheet.specs.Reader.{SheetRead, Parsed}
+use Rattle.sheet.specs.Refusals.{values}
 use Rattle.sheet.specs.Statements.{Among}
 use Rattle.sheet.proofs.Consumed.{OfForm}
-use Rattle.sheet.proofs.Numbers.{IfRefused, law-of-refusal, refuseIf-lawful, then-lawful}
+use Rattle.sheet.proofs.Numbers.{IfRefused, law-of-refusal}
 use Rattle.sheet.proofs.Outcome.{Outcome, gets, stops}
 use Rattle.sheet.proofs.ReadBack.{read-form-outcome}
 use Rattle.stabilizer.proofs.Tests.{any-append}
-use Rattle.stabilizer.proofs.Theorems.{first-lawful, generators-lawful}
-use Rattle.admission.specs.Admission.{faultButDistance, codeFault, refusedReading, admitted}
-use Rattle.admission.specs.Admission.{admissionRefusal, readingOf, checked, readSheet}
-use Rattle.admission.specs.Distance.{claimedWeightFault, claimedDetectedFault, claimedInGroupFault}
-use Rattle.admission.specs.Distance.{distanceFault, logicalErrorUpTo}
-use Rattle.admission.specs.Logicals.{detected, mispaired, detectedFault, pairingFault}
+use Rattle.admission.specs.Admission.{refusedReading, admitted, admissionRefusal, readingOf, checked, readSheet}
 use Rattle.admission.specs.Statements.{AdmissionRefusalNumbers}
+use Rattle.admission.proofs.Refusals.{OfChecks, law-of-fault, checks-refuse}
 
 abbrev checks : List ℕ
 checks = 6 ∷ 7 ∷ 8 ∷ 9 ∷ 10 ∷ 11 ∷ 12 ∷ 13 ∷ 14 ∷ []
@@ -36,33 +32,17 @@ form-of-sheet refusal h =
     any-append (eqb (values refusal .number)) (1 ∷ 2 ∷ 3 ∷ 4 ∷ 5 ∷ []) checks
     ∙ ap (λ b. b || anyOf (eqb (values refusal .number)) checks) h
 
-pub mapped-lawful : {A : Type 0} {Law : Refusal → Type 0} (told : A → Refusal) → ((a : A) → Law (told a)) → (o : Option A)
-    → IfRefused Law (Option·map told o)
-mapped-lawful told law none = IfRefused.unrefused
-mapped-lawful told law (some a) = IfRefused.refused (law a)
-
--- 9 and 10, 11 to 13, and then all of 6 to 14.
-detected-lawful : (c : Code) → IfRefused OfSheet (detectedFault c)
-unfolding detectedFault detected anyOf
-detected-lawful c = first-lawful (detected c) (λ before at P. refuseIf-lawful _ _ refl) [] _ _
-
-pairing-lawful : (c : Code) → IfRefused OfSheet (pairingFault c)
-unfolding pairingFault mispaired anyOf
-pairing-lawful c = first-lawful (mispaired c) (λ before at P. refuseIf-lawful _ _ refl) [] _ _
-
-claim-lawful : (c : Code)
-    → IfRefused OfSheet (claimedWeightFault c then claimedDetectedFault c then claimedInGroupFault c)
-unfolding claimedWeightFault claimedDetectedFault claimedInGroupFault anyOf
-claim-lawful c =
-    then-lawful (refuseIf-lawful _ _ refl) (then-lawful (refuseIf-lawful _ _ refl) (refuseIf-lawful _ _ refl))
-
-code-lawful : (c : Code) → IfRefused OfSheet (codeFault c)
-unfolding codeFault faultButDistance distanceFault anyOf
-code-lawful c =
-    then-lawful
-    (then-lawful (generators-lawful (generators c) (λ at f. refl) (λ at f. refl) (λ at f. refl))
-    (then-lawful (detected-lawful c) (then-lawful (pairing-lawful c) (claim-lawful c))))
-    (mapped-lawful _ (λ s. refl) (logicalErrorUpTo c _))
+checks-of-sheet : {at : ℕ} {c : Code} (refusal : Refusal) → OfChecks at c refusal → OfSheet refusal
+unfolding anyOf
+checks-of-sheet refusal (OfChecks.six h) = refl
+checks-of-sheet refusal (OfChecks.seven h) = refl
+checks-of-sheet refusal (OfChecks.eight h) = refl
+checks-of-sheet refusal (OfChecks.nine h) = refl
+checks-of-sheet refusal (OfChecks.ten h) = refl
+checks-of-sheet refusal OfChecks.eleven = refl
+checks-of-sheet refusal OfChecks.twelve = refl
+checks-of-sheet refusal OfChecks.thirteen = refl
+checks-of-sheet refusal (OfChecks.fourteen s) = refl
 
 reading-lawful : (c : Code) {fault : Option Refusal} → IfRefused OfSheet fault
     → IfRefused OfSheet (admissionRefusal (readingOf c fault .answer))
@@ -70,10 +50,11 @@ unfolding readingOf admitted refusedReading admissionRefusal
 reading-lawful c IfRefused.unrefused = IfRefused.unrefused
 reading-lawful c (IfRefused.refused h) = IfRefused.refused h
 
-checked-lawful : {Got : Code → List ℕ → Type 0} {p : Parsed Code} → Outcome Got OfForm p
+checked-lawful : {Got : SheetRead → List ℕ → Type 0} {p : Parsed SheetRead} → Outcome Got OfForm p
     → IfRefused OfSheet (admissionRefusal (checked p .answer))
 unfolding checked refusedReading admissionRefusal
-checked-lawful (gets {a = c} h) = reading-lawful c (code-lawful c)
+checked-lawful (gets {a = q} h) =
+    reading-lawful (q .code) (law-of-fault checks-of-sheet (checks-refuse (q .claimAt) (q .code)))
 checked-lawful (stops {refusal} h) = IfRefused.refused (form-of-sheet refusal h)
 
 pub admission-refusal-numbers : AdmissionRefusalNumbers

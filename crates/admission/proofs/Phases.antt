@@ -1,11 +1,11 @@
--- The checks read phases modulo 4, so an admitted code that is written is read and admitted again.
-use mathlib.Core.Bool.{true, cond, _&&_, _||_}
+-- An admitted code that is written is read and admitted again: what is read has the phases modulo 4, and no check
+-- sees the difference, since products, commuting and the group are the same of rows with phases modulo 4.
+use mathlib.Core.Bool.{true, _&&_}
 use mathlib.Core.List.{List, [], _∷_, _++_, map, map-append, append-nil}
 use mathlib.Core.Option.{Option}
 use mathlib.Core.Path.{_≡_, refl, ap, ap₂, sym, fun-ext, _∙_}
 use Prim.Native.Nat.{ℕ, zero, suc, _+_, _/_, _≤_}
 use native.Mathlib.Omega.{arith}
-use lib.Dec.{eqb}
 use lib.ListN.{length, take, length-map}
 use Rattle.pauli.specs.declared.Pauli.{Pauli}
 use Rattle.pauli.specs.Letters.{ofLetters}
@@ -18,7 +18,7 @@ use Rattle.sheet.specs.declared.Code.{Code}
 use Rattle.sheet.specs.declared.Refusal.{Refusal}
 use Rattle.sheet.specs.Reader.{got, continue, readForm, nothingBehind}
 use Rattle.sheet.specs.Record.{generators, logicalCount, logicalXs, logicalZs, generatorsAt, logicalsAt, claimAt}
-use Rattle.sheet.specs.Record.{withinLimits}
+use Rattle.sheet.specs.Record.{longestInput, withinLimits}
 use Rattle.sheet.specs.Refusals.{_then_}
 use Rattle.sheet.specs.Statements.{Sized, phasesModulo4}
 use Rattle.sheet.specs.Writer.{sheetText}
@@ -92,18 +92,17 @@ dependence-modulo4 : (before : List Pauli) (at : ℕ) (P : Pauli)
 unfolding dependence
 dependence-modulo4 before at P = rw (group-modulo4, products-modulo4)
 
-generators-modulo4 : (rows : List Pauli) → generatorFault (map modulo4 rows) ≡ generatorFault rows
+generators-modulo4 : (at : ℕ) (rows : List Pauli) → generatorFault at (map modulo4 rows) ≡ generatorFault at rows
 unfolding generatorFault
-generators-modulo4 rows =
-    ap₂ _then_ (first-modulo4 clash clash clash-modulo4 [] generatorsAt rows)
-    (first-modulo4 dependence dependence dependence-modulo4 [] generatorsAt rows)
+generators-modulo4 at rows =
+    ap₂ _then_ (first-modulo4 clash clash clash-modulo4 [] at rows)
+    (first-modulo4 dependence dependence dependence-modulo4 [] at rows)
 
 pairs-modulo4 : (k m j : ℕ) (earlier : List Pauli) (P : Pauli)
     → pairsWrongly k m j (map modulo4 earlier) (modulo4 P) ≡ pairsWrongly k m j earlier P
 unfolding pairsWrongly anticommutes commutes symplectic modulo4
 pairs-modulo4 k m j [] P = refl
-pairs-modulo4 k m j (Q ∷ earlier) P =
-    ap (λ b. cond (eqb m (j + k)) (commutes P Q) (anticommutes P Q) || b) (pairs-modulo4 k m (suc j) earlier P)
+pairs-modulo4 k m j (Q ∷ earlier) P = rw (pairs-modulo4 k m (suc j) earlier P)
 
 -- ---- the checks of a record
 
@@ -112,6 +111,7 @@ take-modulo4 zero rows = refl
 take-modulo4 (suc m) [] = refl
 take-modulo4 (suc m) (P ∷ rows) = ap (λ ps. modulo4 P ∷ ps) (take-modulo4 m rows)
 
+-- The record with its phases brought to 0 to 3.
 module _ (c : Code) where
   abbrev low : Code
   low = phasesModulo4 c
@@ -137,30 +137,26 @@ module _ (c : Code) where
   mispaired-low before at P = rw (length-map, pairs-modulo4)
 
   detected-fault-low : detectedFault low ≡ detectedFault c
-  unfolding detectedFault logicalsAt phasesModulo4
+  unfolding detectedFault generatorsAt logicalsAt phasesModulo4
   detected-fault-low =
       rw logicals-low (first-modulo4 (detected low) (detected c) detected-low [] (logicalsAt c) (logicals c))
 
   pairing-fault-low : pairingFault low ≡ pairingFault c
-  unfolding pairingFault logicalsAt phasesModulo4
+  unfolding pairingFault generatorsAt logicalsAt phasesModulo4
   pairing-fault-low =
       rw logicals-low (first-modulo4 (mispaired low) (mispaired c) mispaired-low [] (logicalsAt c) (logicals c))
 
-  claim-at-low : claimAt low ≡ claimAt c
-  unfolding claimAt logicalsAt logicalCount phasesModulo4
-  claim-at-low = refl
-
-  claimed-weight-low : claimedWeightFault low ≡ claimedWeightFault c
+  claimed-weight-low : (at : ℕ) → claimedWeightFault at low ≡ claimedWeightFault at c
   unfolding claimedWeightFault weight modulo4 phasesModulo4
-  claimed-weight-low = rw claim-at-low
+  claimed-weight-low at = refl
 
-  claimed-detected-low : claimedDetectedFault low ≡ claimedDetectedFault c
+  claimed-detected-low : (at : ℕ) → claimedDetectedFault at low ≡ claimedDetectedFault at c
   unfolding claimedDetectedFault phasesModulo4
-  claimed-detected-low = rw (claim-at-low, generators-low, any-modulo4)
+  claimed-detected-low at = rw (generators-low, any-modulo4)
 
-  claimed-in-group-low : claimedInGroupFault low ≡ claimedInGroupFault c
+  claimed-in-group-low : (at : ℕ) → claimedInGroupFault at low ≡ claimedInGroupFault at c
   unfolding claimedInGroupFault inGroupUpToPhase sameMasks modulo4 phasesModulo4
-  claimed-in-group-low = rw (claim-at-low, generators-low, group-modulo4)
+  claimed-in-group-low at = rw (generators-low, group-modulo4)
 
   search-low : (v : ℕ) → logicalErrorUpTo low v ≡ logicalErrorUpTo c v
   unfolding logicalErrorUpTo phasesModulo4
@@ -169,13 +165,13 @@ module _ (c : Code) where
       (fun-ext λ s. let P = ofLetters s in
       ap (λ rows. isLogicalError rows P) generators-low ∙ logical-modulo4 (generators c) P)
 
-  distance-low : distanceFault low ≡ distanceFault c
+  distance-low : (at : ℕ) → distanceFault at low ≡ distanceFault at c
   unfolding distanceFault phasesModulo4
-  distance-low = rw (claim-at-low, search-low)
+  distance-low at = rw search-low
 
-  pub code-fault-low : codeFault low ≡ codeFault c
-  unfolding codeFault faultButDistance
-  code-fault-low =
+  code-fault-low : (at : ℕ) → codeFault at low ≡ codeFault at c
+  unfolding codeFault faultButDistance generatorsAt
+  code-fault-low at =
       rw (
         generators-low,
         generators-modulo4,
@@ -189,12 +185,14 @@ module _ (c : Code) where
 
   -- ---- written and read
 
-  form-low : Sized c → withinLimits c ≡ true → readForm (sheetText c) ≡ got low []
+  written-form : Sized c → withinLimits c ≡ true
+      → readForm (sheetText c) ≡ got (record { code = low; claimAt = claimAt c }) []
   unfolding readForm continue nothingBehind
-  form-low sized within =
-      let short : length (sheetText c ++ []) ≤ 4096 = rw append-nil (omega (arith, sheetText-le c sized within)) in
+  written-form sized within =
+      let few = sheetText-le c sized within in
+      let short : length (sheetText c ++ []) ≤ longestInput = rw append-nil (omega arith) in
       rw (rw append-nil at (read-after-write c [] sized within short))
 
 pub admitted-code-returns : AdmittedCodeReturns
 unfolding readSheet checked readingOf
-admitted-code-returns c sized within faultless = rw (form-low c sized within, code-fault-low c, faultless)
+admitted-code-returns c sized within faultless = rw (written-form c sized within, code-fault-low c, faultless)

@@ -1,12 +1,12 @@
--- The whole reading of a sheet, in the order of 01's table.
+-- The whole reading of a sheet: its lines, and then its checks in the order of their numbers.
 use mathlib.Core.List.{List, []}
 use mathlib.Core.Option.{Option, none, some}
 use mathlib.Core.Path.{_≡_}
 use Prim.Native.Nat.{ℕ}
 use Rattle.sheet.specs.declared.Code.{Code}
 use Rattle.sheet.specs.declared.Refusal.{Refusal}
-use Rattle.sheet.specs.Record.{generators, emptyCode}
-use Rattle.sheet.specs.Reader.{Parsed, got, stop, readForm}
+use Rattle.sheet.specs.Record.{generators, generatorsAt, emptyCode}
+use Rattle.sheet.specs.Reader.{SheetRead, Parsed, got, stop, readForm}
 use Rattle.sheet.specs.Refusals.{_then_}
 use Rattle.stabilizer.specs.Checks.{generatorFault}
 use Rattle.admission.specs.declared.Admission.{Admission}
@@ -14,15 +14,16 @@ use Rattle.admission.specs.declared.Reading.{Reading}
 use Rattle.admission.specs.Logicals.{detectedFault, pairingFault}
 use Rattle.admission.specs.Distance.{claimedWeightFault, claimedDetectedFault, claimedInGroupFault, distanceFault}
 
--- 01: "Once the sheet is read, 6 to 14 run in table order, ..": 6 to 13, and then 14.
-unfoldable pub faultButDistance : Code → Option Refusal
-faultButDistance c =
-    generatorFault (generators c) then detectedFault c then pairingFault c then claimedWeightFault c
-    then claimedDetectedFault c then claimedInGroupFault c
+-- RULES, "Admission": 6 to 13 in this order, and then 14. The line that w stands on is given to the checks of w.
+unfoldable pub faultButDistance : ℕ → Code → Option Refusal
+faultButDistance at c =
+    generatorFault (generatorsAt c) (generators c) then detectedFault c then pairingFault c
+    then claimedWeightFault at c then claimedDetectedFault at c then claimedInGroupFault at c
 
-unfoldable pub codeFault : Code → Option Refusal
-codeFault c = faultButDistance c then distanceFault c
+unfoldable pub codeFault : ℕ → Code → Option Refusal
+codeFault at c = faultButDistance at c then distanceFault at c
 
+-- RULES, "Calls and buffers": beside a refused reading stands the empty record.
 unfoldable pub refusedReading : Refusal → Reading
 refusedReading refusal = record { answer = Admission.Refused refusal; code = emptyCode }
 
@@ -39,15 +40,16 @@ unfoldable pub readingOf : Code → Option Refusal → Reading
 readingOf c none = admitted c
 readingOf c (some refusal) = refusedReading refusal
 
-unfoldable pub checked : Parsed Code → Reading
-checked (got c rest) = readingOf c (codeFault c)
+unfoldable pub checked : Parsed SheetRead → Reading
+checked (got q rest) = readingOf (q .code) (codeFault (q .claimAt) (q .code))
 checked (stop refusal) = refusedReading refusal
 
 -- A sheet read by itself.
 unfoldable pub readSheet : List ℕ → Reading
 readSheet s = checked (readForm s)
 
--- 01's "lawful in all else": "read by itself, no check other than 14 faults it". c is the record that it is read to.
-pub record AdmissibleButForDistance (s : List ℕ) (c : Code) : Type 0 where
-  pub form : readForm s ≡ got c []
-  pub checks : faultButDistance c ≡ none
+-- RULES, "Admission": a sheet is admissible but for distance where no check other than 14 refuses it. q is what was
+-- read.
+pub record AdmissibleButForDistance (s : List ℕ) (q : SheetRead) : Type 0 where
+  pub form : readForm s ≡ got q []
+  pub checks : faultButDistance (q .claimAt) (q .code) ≡ none

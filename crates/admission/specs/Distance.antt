@@ -15,24 +15,25 @@ use Rattle.pauli.specs.Order.{letterWeight, weightOf, stringsUpTo}
 use Rattle.sheet.specs.declared.Code.{Code}
 use Rattle.sheet.specs.declared.ErrorPair.{ErrorPair}
 use Rattle.sheet.specs.declared.Refusal.{Refusal}
-use Rattle.sheet.specs.Record.{generators, claimAt, onQubits}
+use Rattle.sheet.specs.Record.{generators, onQubits}
 use Rattle.sheet.specs.Refusals.{refuseIf}
 use Rattle.stabilizer.specs.Group.{InGroupUpToPhase, inGroupUpToPhase}
 
--- 11: "weight not d"
-unfoldable pub claimedWeightFault : Code → Option Refusal
-claimedWeightFault c = refuseIf (not (eqb (weight (c .w)) (c .d))) (Refusal.ClaimedWeight (claimAt c))
+-- Each of the four checks is given the line that w stands on, and names it.
 
--- 12: "anticommutes with a g row"
-unfoldable pub claimedDetectedFault : Code → Option Refusal
-claimedDetectedFault c =
-    refuseIf (anyOf (anticommutes (c .w)) (generators c)) (Refusal.ClaimedAnticommutes (claimAt c))
+-- RULES, "Admission": 11 where the weight of w is not d.
+unfoldable pub claimedWeightFault : ℕ → Code → Option Refusal
+claimedWeightFault at c = refuseIf (not (eqb (weight (c .w)) (c .d))) (Refusal.ClaimedWeight at)
 
--- 13: "in the group, phase aside"
-unfoldable pub claimedInGroupFault : Code → Option Refusal
-claimedInGroupFault c = refuseIf (inGroupUpToPhase (generators c) (c .w)) (Refusal.ClaimedInGroup (claimAt c))
+-- RULES, "Admission": 12 where w anticommutes with a generator.
+unfoldable pub claimedDetectedFault : ℕ → Code → Option Refusal
+claimedDetectedFault at c = refuseIf (anyOf (anticommutes (c .w)) (generators c)) (Refusal.ClaimedAnticommutes at)
 
--- 01: "a logical error is a Pauli that commutes with every g row and is not, phase aside, in the group".
+-- RULES, "Admission": 13 where w is in the group, phase aside.
+unfoldable pub claimedInGroupFault : ℕ → Code → Option Refusal
+claimedInGroupFault at c = refuseIf (inGroupUpToPhase (generators c) (c .w)) (Refusal.ClaimedInGroup at)
+
+-- RULES, "Distance": a logical error commutes with every generator and is not in the group, phase aside.
 unfoldable pub isLogicalError : List Pauli → Pauli → Bool
 isLogicalError rows P = allOf (commutes P) rows && not (inGroupUpToPhase rows P)
 
@@ -42,7 +43,7 @@ pub record LogicalError (c : Code) (P : Pauli) : Type 0 where
   pub undetected : allOf (commutes P) (generators c) ≡ true
   pub outside : InGroupUpToPhase (generators c) P → ⊥
 
--- 01: "the distance is the least weight of one."
+-- RULES, "Distance": the distance is the least weight of a logical error.
 pub record IsDistance (c : Code) (v : ℕ) : Type 0 where
   pub reached : (P : Pauli) × LogicalError c P × (weight P ≡ v)
   pub least : (P : Pauli) → LogicalError c P → v ≤ weight P
@@ -63,14 +64,13 @@ otherLetters m [] = []
 otherLetters zero (l ∷ ls) = l ∷ ls
 otherLetters (suc m) (l ∷ ls) = I ∷ otherLetters (suc m - letterWeight l) ls
 
--- 01: "Refusal 14 carries two errors: from the earliest logical error, of weight v, E has its first v/2 letters other than I (rounded
--- up) and F the rest, both with sign +."
+-- RULES, "Distance": E has the first half of the earliest logical error's letters, rounded up, and F the others.
 unfoldable pub refutingPair : ℕ → List Letter → ErrorPair
 refutingPair n s =
     let half = (weightOf s + 1) / 2 in
     record { n = n; e = ofLetters (firstLetters half s); f = ofLetters (otherLetters half s) }
 
--- 14: "a logical error of weight below d exists"
-unfoldable pub distanceFault : Code → Option Refusal
-distanceFault c =
-    Option·map (λ s. Refusal.DistanceRefuted (claimAt c) (refutingPair (c .n) s)) (logicalErrorUpTo c (c .d - 1))
+-- RULES, "Distance": 14 where there is a logical error of weight below d.
+unfoldable pub distanceFault : ℕ → Code → Option Refusal
+distanceFault at c =
+    Option·map (λ s. Refusal.DistanceRefuted at (refutingPair (c .n) s)) (logicalErrorUpTo c (c .d - 1))

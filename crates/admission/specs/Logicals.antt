@@ -22,24 +22,26 @@ logicals c = logicalXs c ++ logicalZs c
 unfoldable pub familyAfter : ℕ → List Pauli → Family
 familyAfter k before = cond (ltb (length before) k) Family.LogicalX Family.LogicalZ
 
--- 9: "anticommutes with a g row"
+-- RULES, "Admission": 9 where a logical anticommutes with a generator.
 unfoldable pub detected : Code → List Pauli → ℕ → Pauli → Option Refusal
 detected c before at P =
-    refuseIf (anyOf (anticommutes P) (generators c)) (Refusal.LogicalAnticommutes at (familyAfter (logicalCount c) before))
+    refuseIf (anyOf (anticommutes P) (generators c))
+    (Refusal.LogicalAnticommutes at (familyAfter (logicalCount c) before))
 
--- Whether one of the earlier rows, which stand at the places j, j + 1, .., pairs wrongly with the row P at the place m: "anticommutes
--- where it is not its own partner, or commutes where it is (x i and z i are partners)".
+-- RULES, "Admission": partners anticommute, other logicals commute. Whether one of the earlier rows, at the places
+-- j, j + 1, .., pairs wrongly with the row P at the place m: its partner stands k places before it.
 unfoldable pub pairsWrongly : ℕ → ℕ → ℕ → List Pauli → Pauli → Bool
 pairsWrongly k m j [] P = false
 pairsWrongly k m j (Q ∷ earlier) P =
     cond (eqb m (j + k)) (commutes P Q) (anticommutes P Q) || pairsWrongly k m (suc j) earlier P
 
--- 10: "with some earlier x or z row: .."
+-- RULES, "Admission": 10 where a logical pairs wrongly with an earlier one.
 unfoldable pub mispaired : Code → List Pauli → ℕ → Pauli → Option Refusal
 mispaired c before at P =
     refuseIf (pairsWrongly (logicalCount c) (length before) 0 before P)
     (Refusal.LogicalPairing at (familyAfter (logicalCount c) before))
 
+-- 9 and 10, each over all x and z rows.
 unfoldable pub detectedFault : Code → Option Refusal
 detectedFault c = firstFault (detected c) [] (logicalsAt c) (logicals c)
 

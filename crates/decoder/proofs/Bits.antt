@@ -1,12 +1,15 @@
--- How many bits a syndrome has, and that the characters that are read as bits are the text of those bits.
-use mathlib.Core.Bool.{Bool, true, cond}
-use mathlib.Core.List.{List, map}
+-- A syndrome has as many bits as there are generators, its characters are read as those bits, and what is read as
+-- bits is their characters. Each goes row by row or character by character.
+use mathlib.Core.Bool.{Bool, true, false, cond}
+use mathlib.Core.List.{List, [], _∷_, map}
 use mathlib.Core.Option.{none, some}
-use mathlib.Core.Path.{_≡_, ap, sym, _∙_}
+use mathlib.Core.Path.{_≡_, refl, ap, sym, _∙_}
 use Prim.Native.Nat.{ℕ}
+use native.Mathlib.Omega.{arith}
 use borrow.Author.Tests.{eq-eqb}
 use lib.ListN.{length, length-map}
 use Rattle.pauli.specs.declared.Pauli.{Pauli}
+use Rattle.pauli.specs.Lists.{firstOf, readByte}
 use Rattle.pauli.specs.Syndrome.{syndrome}
 use Rattle.sheet.specs.declared.Code.{Code}
 use Rattle.sheet.specs.Reader.{readEach}
@@ -14,11 +17,17 @@ use Rattle.sheet.specs.Record.{generators, withinLimits}
 use Rattle.sheet.specs.Statements.{Sized}
 use Rattle.sheet.proofs.Lengths.{length-generators}
 use Rattle.sheet.proofs.Limits.{limits}
-use Rattle.sheet.proofs.Values.{each-written, readByte-byte}
+use Rattle.sheet.proofs.Values.{each-read, each-written, readByte-byte}
 use Rattle.admission.proofs.Admitted.{admitted-as, admitted-lawful}
 use Rattle.decoder.specs.Statements.{SyndromesHaveRBits}
 use Rattle.decoder.specs.Syndrome.{bitByte, readBit, syndromeText, readSyndrome}
-use Rattle.decoder.proofs.Corrected.{length-syndrome}
+
+-- ---- how many bits
+
+length-syndrome : (rows : List Pauli) (P : Pauli) → length (syndrome rows P) ≡ length rows
+unfolding syndrome
+length-syndrome [] P = refl
+length-syndrome (g ∷ rows) P = omega (arith, length-syndrome rows P)
 
 of-record : (c : Code) (P : Pauli) → Sized c → withinLimits c ≡ true → length (syndrome (generators c) P) ≡ c .r
 of-record c P sized within = length-syndrome (generators c) P ∙ length-generators c sized (limits c within)
@@ -30,8 +39,21 @@ syndromes-have-r-bits = record {
       of-record _ P (lawful .sized) (lawful .limits);
 }
 
--- ---- what was read
+-- ---- bits and characters
 
+bit-read : (b : Bool) → readBit (bitByte b) ≡ some b
+unfolding readBit readByte firstOf bitByte
+bit-read true = refl
+bit-read false = refl
+
+-- The characters of r bits are read as those bits.
+pub syndrome-read : (r : ℕ) (bits : List Bool) → length bits ≡ r → readSyndrome r (syndromeText bits) ≡ some bits
+unfolding readSyndrome syndromeText
+syndrome-read r bits count =
+    rw (eq-eqb (length (map bitByte bits)) r (length-map bits bitByte ∙ count))
+    (each-read bitByte readBit bit-read bits)
+
+-- What is read as bits is the characters of r bits.
 pub syndrome-written : (r : ℕ) (v : List ℕ) (bits : List Bool) → length v ≡ r → readSyndrome r v ≡ some bits
     → (length bits ≡ r) × (v ≡ syndromeText bits)
 unfolding readSyndrome syndromeText readBit

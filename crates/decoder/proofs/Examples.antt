@@ -26,26 +26,35 @@ codeK = readSheet (bytes sheetK) .code
 -- ---- syndromes
 
 -- X on qubit 1 of A anticommutes with its last generator alone
-syndrome-a : writeSyndrome codeA (ofLetters (X ∷ I ∷ I ∷ I ∷ I ∷ [])) (bytes "abcdef") ≡ record { answer = SyndromeAnswer.Given; buffer = bytes "0001ef" }
+syndrome-a :
+    writeSyndrome codeA (ofLetters (X ∷ I ∷ I ∷ I ∷ I ∷ [])) (bytes "abcdef")
+    ≡ record { answer = SyndromeAnswer.Given; buffer = bytes "0001ef" }
 unfolding codeA definitions
 syndrome-a = refl
 
 -- the phase, and mask bits above qubit n, change nothing
-syndrome-above : writeSyndrome codeA (record { p = 7; a = 2 ^ 31 + 1; b = 2 ^ 5 }) (bytes "abcd") ≡ record { answer = SyndromeAnswer.Given; buffer = bytes "0001" }
+syndrome-above :
+    writeSyndrome codeA (record { p = 7; a = 2 ^ 31 + 1; b = 2 ^ 5 }) (bytes "abcd")
+    ≡ record { answer = SyndromeAnswer.Given; buffer = bytes "0001" }
 unfolding codeA definitions
 syndrome-above = refl
 
-syndrome-short : writeSyndrome codeA (ofLetters []) (bytes "abc") ≡ untouched (SyndromeAnswer.Refused Refusal.ShortBuffer) (bytes "abc")
+syndrome-short :
+    writeSyndrome codeA (ofLetters []) (bytes "abc")
+    ≡ untouched (SyndromeAnswer.Refused Refusal.ShortBuffer) (bytes "abc")
 unfolding codeA definitions
 syndrome-short = refl
 
-syndrome-outside : writeSyndrome emptyCode (ofLetters []) (bytes "abc") ≡ untouched (SyndromeAnswer.Refused Refusal.RecordLimits) (bytes "abc")
+syndrome-outside :
+    writeSyndrome emptyCode (ofLetters []) (bytes "abc")
+    ≡ untouched (SyndromeAnswer.Refused Refusal.RecordLimits) (bytes "abc")
 unfolding definitions
 syndrome-outside = refl
 
 -- ---- corrections
 
-decode-a : decode codeA (bytes "0001") (bytes "abcdefg") ≡ record { answer = Decoded.Correction; buffer = bytes "XIIIIfg" }
+decode-a :
+    decode codeA (bytes "0001") (bytes "abcdefg") ≡ record { answer = Decoded.Correction; buffer = bytes "XIIIIfg" }
 unfolding codeA definitions
 decode-a = refl
 
@@ -66,12 +75,13 @@ decode-short : decode codeK (bytes "1") (bytes "a") ≡ untouched (Decoded.Refus
 unfolding codeK definitions
 decode-short = refl
 
--- "Nine qubits ..: the errors Z on 1, 2 and 3 share a syndrome; the correction is IIZIIIIII."
+-- In the nine-qubit code Z on qubit 1, 2 or 3 has the same syndrome, and the earliest of the three is the correction.
 codeNine : Code
 codeNine = readSheet (bytes nineQubits) .code
 
 share-a-syndrome :
-    map (λ e. writeSyndrome codeNine (ofLetters e) (bytes "abcdefgh") .buffer) ((Z ∷ []) ∷ (I ∷ Z ∷ []) ∷ (I ∷ I ∷ Z ∷ []) ∷ [])
+    map (λ e. writeSyndrome codeNine (ofLetters e) (bytes "abcdefgh") .buffer)
+    ((Z ∷ []) ∷ (I ∷ Z ∷ []) ∷ (I ∷ I ∷ Z ∷ []) ∷ [])
     ≡ bytes "00000010" ∷ bytes "00000010" ∷ bytes "00000010" ∷ []
 unfolding codeNine definitions
 share-a-syndrome = refl

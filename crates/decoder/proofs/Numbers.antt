@@ -1,4 +1,5 @@
--- The numbers with which the syndrome call and the decode call refuse: those of their checks.
+-- The syndrome call refuses with 15 and 17, the decode call with 15, 16 and 17: each refusal is that of one of the
+-- call's checks, and a correction or `none` carries none.
 use mathlib.Core.List.{List}
 use mathlib.Core.Option.{Option, none, some}
 use mathlib.Core.Path.{refl}

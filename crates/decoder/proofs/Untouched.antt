@@ -1,5 +1,5 @@
--- A refusal of the syndrome call and of the decode call leaves the buffer as it was, and so does the answer `none`: the outcomes of each call, taken
--- one by one.
+-- A refusal of the syndrome call and of the decode call leaves the buffer as it was, and so does the answer `none`: the
+-- outcomes of each call, taken one by one. `none` counts as a refusal here, so that one walk serves both.
 use mathlib.Core.List.{List}
 use mathlib.Core.Option.{Option, none, some}
 use mathlib.Core.Path.{_≡_, refl, ap}
@@ -15,13 +15,15 @@ use Rattle.decoder.specs.Correction.{corrected, decode, decodedRefusal}
 use Rattle.decoder.specs.Statements.{DecoderRefusalsLeave}
 use Rattle.decoder.specs.Syndrome.{syndromeRefusal, writeSyndrome}
 
-syndrome-leaves : (c : Code) (P : Pauli) (buffer : List ℕ) → RefusalLeaves syndromeRefusal buffer (writeSyndrome c P buffer)
+syndrome-leaves : (c : Code) (P : Pauli) (buffer : List ℕ)
+    → RefusalLeaves syndromeRefusal buffer (writeSyndrome c P buffer)
 unfolding writeSyndrome syndromeRefusal
 syndrome-leaves c P buffer = guarded-leaves syndromeRefusal buffer _ _ (answer-leaves syndromeRefusal buffer _ refl)
 
 -- Whichever answers but a correction are counted as refusals: they leave the buffer.
 module _ (refusalOf : Decoded → Option Refusal) (correction-is-none : refusalOf Decoded.Correction ≡ none) where
-  corrected-leaves : (found : Option (List Letter)) (buffer : List ℕ) → RefusalLeaves refusalOf buffer (corrected found buffer)
+  corrected-leaves : (found : Option (List Letter)) (buffer : List ℕ)
+      → RefusalLeaves refusalOf buffer (corrected found buffer)
   unfolding corrected
   corrected-leaves none buffer = untouched-leaves refusalOf buffer Decoded.None
   corrected-leaves (some s) buffer = answer-leaves refusalOf buffer _ correction-is-none
@@ -30,15 +32,17 @@ module _ (refusalOf : Decoded → Option Refusal) (correction-is-none : refusalO
   unfolding decode
   decode-leaves c characters buffer = guarded-leaves refusalOf buffer _ _ (corrected-leaves _ buffer)
 
--- Each answer but a correction, counted as a refusal.
-unsettled : Decoded → Option Refusal
-unsettled Decoded.Correction = none
-unsettled Decoded.None = some Refusal.ShortBuffer
-unsettled (Decoded.Refused refusal) = some refusal
+-- Each answer but a correction, counted as a refusal: which refusal does not matter.
+noCorrection : Decoded → Option Refusal
+noCorrection Decoded.Correction = none
+noCorrection Decoded.None = some Refusal.ShortBuffer
+noCorrection (Decoded.Refused refusal) = some refusal
 
-none-leaves : (c : Code) (characters buffer : List ℕ) → decode c characters buffer .answer ≡ Decoded.None → decode c characters buffer .buffer ≡ buffer
-unfolding unsettled
-none-leaves c characters buffer h = decode-leaves unsettled refl c characters buffer .unchanged Refusal.ShortBuffer (ap unsettled h)
+none-leaves : (c : Code) (characters buffer : List ℕ) → decode c characters buffer .answer ≡ Decoded.None
+    → decode c characters buffer .buffer ≡ buffer
+unfolding noCorrection
+none-leaves c characters buffer h =
+    decode-leaves noCorrection refl c characters buffer .unchanged Refusal.ShortBuffer (ap noCorrection h)
 
 pub decoder-refusals-leave : DecoderRefusalsLeave
 unfolding decodedRefusal

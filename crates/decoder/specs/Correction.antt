@@ -16,20 +16,20 @@ use Rattle.sheet.specs.Text.{After, laid, untouched, guarded, roomFault}
 use Rattle.decoder.specs.declared.Decoded.{Decoded}
 use Rattle.decoder.specs.Syndrome.{sameBits, readSyndrome, syndromeFault}
 
+-- Whether a string of letters has the syndrome.
 unfoldable pub hasSyndrome : Code → List Bool → List Letter → Bool
 hasSyndrome c bits s = sameBits (syndrome (generators c) (ofLetters s)) bits
 
--- 01: "the correction is the earliest Pauli of weight at most t with the given syndrome".
+-- RULES, "Decoding": the correction is the earliest Pauli of weight at most t that has the syndrome.
 unfoldable pub correction : Code → List Bool → Option (List Letter)
 correction c bits = firstOf (hasSyndrome c bits) (stringsUpTo (c .n) (radius c))
 
--- 01: "If there is none the answer is `none` and the buffer is untouched; otherwise its first n bytes are the letters and the rest
--- stays."
+-- RULES, "Calls and buffers": the letters stand in the buffer's first n bytes; the answer `none` leaves the buffer.
 unfoldable pub corrected : Option (List Letter) → List ℕ → After Decoded
 corrected none buffer = untouched Decoded.None buffer
 corrected (some s) buffer = record { answer = Decoded.Correction; buffer = laid (map letterByte s) buffer }
 
--- The decode call: 15, then 16, then 17. 01: "For 17 a decode's answer counts as n bytes, even where it would be `none`."
+-- RULES, "Calls and buffers": the decode call checks 15, then 16, then 17, for which its answer counts as n bytes.
 unfoldable pub decode : Code → List ℕ → List ℕ → After Decoded
 decode c characters buffer =
     guarded Decoded.Refused (limitsFault c then syndromeFault (c .r) characters then roomFault (c .n) buffer) buffer

@@ -1,9 +1,11 @@
--- Every definition of this layer and of those below it that computes, to be definitions at once where an example is computed: a proof that says
--- `unfolding definitions` unfolds all that the line below names.
+-- Every definition of this layer and of those below it that computes, to be unfolded at once where an example is
+-- computed: a proof that says `unfolding definitions` unfolds all that the lines below name.
 use Rattle.admission.specs.Definitions.{definitions as definitions-admission}
-use Rattle.decoder.specs.Syndrome.{sameBits, bitByte, readBit, syndromeText, isNone, readSyndrome, syndromeFault, writeSyndrome, syndromeRefusal}
+use Rattle.decoder.specs.Syndrome.{sameBits, bitByte, readBit, syndromeText, isNone}
+use Rattle.decoder.specs.Syndrome.{readSyndrome, syndromeFault, writeSyndrome, syndromeRefusal}
 use Rattle.decoder.specs.Correction.{hasSyndrome, correction, corrected, decode, decodedRefusal}
 
 unfoldable pub definitions : Unit {0}
-unfolding sameBits bitByte readBit syndromeText isNone readSyndrome syndromeFault writeSyndrome syndromeRefusal hasSyndrome correction corrected decode decodedRefusal definitions-admission
+unfolding sameBits bitByte readBit syndromeText isNone readSyndrome syndromeFault writeSyndrome syndromeRefusal
+    hasSyndrome correction corrected decode decodedRefusal definitions-admission
 definitions = tt

@@ -38,15 +38,15 @@ unfoldable pub isNone : {A : Type 0} → Option A → Bool
 isNone none = true
 isNone (some a) = false
 
--- 16: "not exactly r characters 0 or 1"
+-- RULES, "Decoding": a syndrome as text is exactly r characters 0 or 1.
 unfoldable pub readSyndrome : ℕ → List ℕ → Option (List Bool)
 readSyndrome r cs = cond (eqb (length cs) r) (readEach readBit cs) none
 
--- 16 of a syndrome that stands alone, which names line 0.
+-- RULES, "Refusals": 16 of a syndrome that stands alone names line 0.
 unfoldable pub syndromeFault : ℕ → List ℕ → Option Refusal
 syndromeFault r cs = refuseIf (isNone (readSyndrome r cs)) (Refusal.Syndrome 0)
 
--- 01: "A call gives it as r characters 0 or 1 in the buffer's first r bytes; the rest stays." 15, then 17.
+-- RULES, "Calls and buffers": the syndrome call checks 15, then 17, and writes r characters.
 unfoldable pub writeSyndrome : Code → Pauli → List ℕ → After SyndromeAnswer
 writeSyndrome c P buffer =
     guarded SyndromeAnswer.Refused (limitsFault c then roomFault (c .r) buffer) buffer

@@ -7,7 +7,8 @@ pub enum SyndromeAnswer {
     Refused(Refusal),
 }
 
-// The correction stands in the output buffer; or no error of weight at most t has the syndrome; or the call was refused.
+// The correction stands in the output buffer; or no error of weight at most t has the syndrome; or the call was
+// refused.
 pub enum Decoded {
     Correction,
     None,

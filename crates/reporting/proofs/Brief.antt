@@ -1,104 +1,78 @@
--- The refusals of a record's checks are brief: they name lines of the sheet, and errors on the code's qubits.
-use mathlib.Core.List.{List, [], _∷_, _++_}
-use mathlib.Core.Option.{Option, none}
+-- The refusals of a record's checks are brief, as text: they name lines of the sheet, which has few, and the errors
+-- of 14 have a letter for each qubit.
+use mathlib.Core.List.{List}
+use mathlib.Core.Option.{none}
 use mathlib.Core.Path.{_≡_, refl}
-use Prim.Native.Nat.{ℕ, _+_, _-_, _≤_}
+use Prim.Native.Nat.{ℕ, _≤_}
 use native.Mathlib.Omega.{arith}
 use lib.Dec.{lit≤}
 use lib.ListN.{length, length-append}
-use Rattle.pauli.specs.declared.Pauli.{Pauli}
+use Rattle.pauli.specs.declared.Letter.{Letter}
 use Rattle.pauli.specs.Lists.{bytes}
 use Rattle.sheet.specs.declared.Code.{Code}
 use Rattle.sheet.specs.declared.Refusal.{Refusal}
-use Rattle.sheet.specs.Record.{generators, generatorsAt, logicalCount, logicalsAt, claimAt}
-use Rattle.sheet.specs.Refusals.{values, _then_}
+use Rattle.sheet.specs.Record.{generatorsAt, pairCount, logicalCount, logicalsAt, claimAt}
+use Rattle.sheet.specs.Refusals.{values}
 use Rattle.sheet.specs.Statements.{Sized}
 use Rattle.sheet.proofs.Lengths.{length-line, length-letterText, length-generators, length-logicalXs, length-logicalZs}
 use Rattle.sheet.proofs.Limits.{Limits}
-use Rattle.sheet.proofs.Numbers.{IfRefused, refuseIf-lawful, then-lawful}
-use Rattle.stabilizer.specs.Checks.{firstFault, clash, dependence, generatorFault}
-use Rattle.admission.specs.Admission.{faultButDistance, codeFault}
-use Rattle.admission.specs.Distance.{claimedWeightFault, claimedDetectedFault, claimedInGroupFault, distanceFault}
-use Rattle.admission.specs.Distance.{logicalErrorUpTo, refutingPair}
-use Rattle.admission.specs.Logicals.{logicals, detected, mispaired, detectedFault, pairingFault}
-use Rattle.admission.proofs.Numbers.{mapped-lawful}
+use Rattle.sheet.proofs.Numbers.{IfRefused}
+use Rattle.admission.specs.Admission.{codeFault}
+use Rattle.admission.specs.Distance.{refutingPair}
+use Rattle.admission.specs.Logicals.{logicals}
+use Rattle.admission.proofs.Refusals.{generatorsEnd, logicalsEnd, OfChecks, law-of-fault, checks-refuse}
 use Rattle.reporting.specs.Report.{errorsText}
 
--- A line that is named is one of the sheet's, at most 51, or one of those behind it, which have at most 4,096 bytes.
--- The errors are two lines of at most 24 letters.
+-- No line has a higher number: a sheet has 50 lines at most, and each line behind it has a byte of the 4,096.
+abbrev pub lastLine : ℕ
+lastLine = 5000
+
+-- The errors are two lines of at most 24 letters, with a key and a line feed each.
 pub record Brief (refusal : Refusal) : Type 0 where
   pub number : values refusal .number ≤ 17
-  pub line : values refusal .line ≤ 5000
+  pub line : values refusal .line ≤ lastLine
   pub errors : length (errorsText (values refusal .errors)) ≤ 54
 
-pub brief : (refusal : Refusal) → values refusal .number ≤ 17 → values refusal .line ≤ 5000
+pub brief : (refusal : Refusal) → values refusal .number ≤ 17 → values refusal .line ≤ lastLine
     → values refusal .errors ≡ none → Brief refusal
 unfolding errorsText
 brief refusal number line none-carried = record { number = number; line = line; errors = rw none-carried (lit≤ tt) }
 
 -- ---- the checks
 
-first-brief : (check : List Pauli → ℕ → Pauli → Option Refusal)
-    → ((before : List Pauli) (at : ℕ) (P : Pauli) → at ≤ 5000 → IfRefused Brief (check before at P))
-    → (before : List Pauli) (at : ℕ) (rows : List Pauli) → at + length rows ≤ 5000
-    → IfRefused Brief (firstFault check before at rows)
-unfolding firstFault
-first-brief check each before at [] few = IfRefused.unrefused
-first-brief check each before at (P ∷ rows) few =
-    then-lawful (each before at P (omega arith))
-    (first-brief check each (before ++ P ∷ []) (at + 1) rows (omega arith))
-
 module _ (c : Code) (sized : Sized c) (within : Limits c) where
-  generators-brief : IfRefused Brief (generatorFault (generators c))
-  unfolding generatorFault clash dependence generatorsAt
-  generators-brief =
-      let r = length-generators c sized within in
-      then-lawful
-      (first-brief clash (λ before at P h. refuseIf-lawful _ _ (brief _ (lit≤ tt) h refl)) [] 3 (generators c)
-      (omega arith))
-      (first-brief dependence (λ before at P h. then-lawful (refuseIf-lawful _ _ (brief _ (lit≤ tt) h refl))
-      (refuseIf-lawful _ _ (brief _ (lit≤ tt) h refl))) [] 3 (generators c) (omega arith))
+  generators-end : generatorsEnd c ≤ lastLine
+  unfolding generatorsAt
+  generators-end = omega (arith, length-generators c sized within)
 
-  logicals-few : logicalsAt c + length (logicals c) ≤ 5000
-  unfolding logicalsAt generatorsAt logicals
-  logicals-few =
+  logicals-end : logicalsEnd c ≤ lastLine
+  unfolding generatorsAt logicalsAt logicals pairCount logicalCount
+  logicals-end =
       rw length-append (omega (arith, length-logicalXs c sized within, length-logicalZs c sized within))
 
-  detected-brief : IfRefused Brief (detectedFault c)
-  unfolding detectedFault detected
-  detected-brief =
-      first-brief (detected c) (λ before at P h. refuseIf-lawful _ _ (brief _ (lit≤ tt) h refl)) [] _ _ logicals-few
-
-  pairing-brief : IfRefused Brief (pairingFault c)
-  unfolding pairingFault mispaired
-  pairing-brief =
-      first-brief (mispaired c) (λ before at P h. refuseIf-lawful _ _ (brief _ (lit≤ tt) h refl)) [] _ _ logicals-few
-
-  pub claim-few : claimAt c ≤ 60
-  unfolding claimAt logicalsAt generatorsAt logicalCount
+  pub claim-few : claimAt c ≤ 50
+  unfolding generatorsAt logicalsAt claimAt pairCount logicalCount
   claim-few = omega arith
 
-  claim-brief : IfRefused Brief (claimedWeightFault c then claimedDetectedFault c then claimedInGroupFault c)
-  unfolding claimedWeightFault claimedDetectedFault claimedInGroupFault
-  claim-brief =
-      let few : claimAt c ≤ 5000 = omega (arith, claim-few) in
-      then-lawful (refuseIf-lawful _ _ (brief _ (lit≤ tt) few refl))
-      (then-lawful (refuseIf-lawful _ _ (brief _ (lit≤ tt) few refl))
-      (refuseIf-lawful _ _ (brief _ (lit≤ tt) few refl)))
+  module _ (at : ℕ) (few : at ≤ lastLine) where
+    pair-brief : (s : List Letter) → Brief (Refusal.DistanceRefuted at (refutingPair (c .n) s))
+    unfolding errorsText refutingPair bytes
+    pair-brief s = record {
+      number = lit≤ tt;
+      line = few;
+      errors = simp (length-append, length-line, length-letterText) (omega arith);
+    }
 
-  -- The errors of 14 have n letters each.
-  distance-brief : IfRefused Brief (distanceFault c)
-  unfolding distanceFault errorsText refutingPair bytes
-  distance-brief =
-      mapped-lawful _ (λ s. record {
-        number = lit≤ tt;
-        line = omega (arith, claim-few);
-        errors = simp (length-append, length-line, length-letterText) (omega arith);
-      }) (logicalErrorUpTo c (c .d - 1))
+    checks-brief : (refusal : Refusal) → OfChecks at c refusal → Brief refusal
+    checks-brief refusal (OfChecks.six h) = brief refusal (lit≤ tt) (omega (arith, generators-end)) refl
+    checks-brief refusal (OfChecks.seven h) = brief refusal (lit≤ tt) (omega (arith, generators-end)) refl
+    checks-brief refusal (OfChecks.eight h) = brief refusal (lit≤ tt) (omega (arith, generators-end)) refl
+    checks-brief refusal (OfChecks.nine h) = brief refusal (lit≤ tt) (omega (arith, logicals-end)) refl
+    checks-brief refusal (OfChecks.ten h) = brief refusal (lit≤ tt) (omega (arith, logicals-end)) refl
+    checks-brief refusal OfChecks.eleven = brief refusal (lit≤ tt) few refl
+    checks-brief refusal OfChecks.twelve = brief refusal (lit≤ tt) few refl
+    checks-brief refusal OfChecks.thirteen = brief refusal (lit≤ tt) few refl
+    checks-brief refusal (OfChecks.fourteen s) = pair-brief s
 
-  pub code-brief : IfRefused Brief (codeFault c)
-  unfolding codeFault faultButDistance
-  code-brief =
-      then-lawful
-      (then-lawful generators-brief (then-lawful detected-brief (then-lawful pairing-brief claim-brief)))
-      distance-brief
+    pub code-brief : IfRefused Brief (codeFault at c)
+    code-brief = law-of-fault checks-brief (checks-refuse at c)

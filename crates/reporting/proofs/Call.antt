@@ -1,4 +1,5 @@
--- The report's call: it writes the report's text where it has room, and else refuses with 17.
+-- The report's call writes the report's text where it has room, and else refuses with 17: it has no check but the room,
+-- and the longest report has room in every buffer of that length.
 use mathlib.Core.List.{List}
 use mathlib.Core.Logic.{_⊎_, inl, inr}
 use mathlib.Core.Option.{none}
@@ -7,22 +8,23 @@ use Prim.Native.Nat.{ℕ, _≤_}
 use native.Mathlib.Omega.{arith}
 use lib.ListN.{length}
 use Rattle.sheet.specs.Text.{written}
-use Rattle.admission.proofs.Written.{text-written, text-refused}
-use Rattle.reporting.specs.Report.{reportText, writeReport}
+use Rattle.sheet.proofs.WrittenText.{written-short, written-whole}
+use Rattle.reporting.specs.Report.{longestReport, reportText, writeReport}
 use Rattle.reporting.specs.Statements.{IsReported, ReportIsWritten}
 use Rattle.reporting.proofs.Fits.{report-fits}
 
 pub is-reported : (input text : List ℕ) → reportText input ≡ text → IsReported input text
 unfolding writeReport
 is-reported input text e = record {
-  written = λ buffer room. call buffer ∙ text-written text buffer (enough buffer room);
-  short = λ buffer small. call buffer ∙ text-refused text buffer small;
+  written = λ buffer room. call buffer ∙ written-whole text buffer refl (enough buffer room);
+  short = λ buffer small. call buffer ∙ written-short text buffer refl small;
 }
   where
     call : (buffer : List ℕ) → written none (reportText input) buffer ≡ written none text buffer
     call buffer = ap (λ (t : List ℕ). written none t buffer) e
 
-    enough : (buffer : List ℕ) → (32768 ≤ length buffer) ⊎ (length text ≤ length buffer) → length text ≤ length buffer
+    enough : (buffer : List ℕ) → (longestReport ≤ length buffer) ⊎ (length text ≤ length buffer)
+        → length text ≤ length buffer
     enough buffer (inl h) = omega (arith, report-fits input, ap length e)
     enough buffer (inr h) = h
 

@@ -1,4 +1,5 @@
--- Reports at the edges, computed: codes that tell right from nearly right, the largest n, faults in the `s=` lines, a short buffer.
+-- Reports at the edges, computed: codes that tell right from nearly right, the largest n, faults in the `s=` lines,
+-- a short buffer.
 use mathlib.Core.List.{List, [], _∷_, _++_, map, List·Memᴰ}
 use mathlib.Core.Path.{_≡_, refl}
 use Prim.Native.String.{String, _++_ as _⧺_}
@@ -24,17 +25,21 @@ record Entry : Type 0 where
   input : String
   output : String
 
--- Codes on which a wrong reading of 01 differs from the right one.
+-- Codes on which a wrong reading of the rules differs from the right one.
 others : List Entry
 others =
     -- Nine qubits: ZZ on 1-2 has syndrome 0 and is no logical error; Z on 1, 2 and 3 share a syndrome.
     record {
       input = nineQubits ⧺ "s=00000010\n";
-      output = "n=9\nk=1\nd=3\nt=1\nh=+XXXIIIXXX\nh=+IIIXXXXXX\nh=+ZIZIIIIII\nh=+IZZIIIIII\nh=+IIIZIZIII\nh=+IIIIZZIII\nh=+IIIIIIZIZ\nh=+IIIIIIIZZ\nc=IIZIIIIII\n";
+      output =
+          "n=9\nk=1\nd=3\nt=1\nh=+XXXIIIXXX\nh=+IIIXXXXXX\nh=+ZIZIIIIII\nh=+IZZIIIIII\nh=+IIIZIZIII\nh=+IIIIZZIII\n"
+          ⧺ "h=+IIIIIIZIZ\nh=+IIIIIIIZZ\nc=IIZIIIIII\n";
     }
     -- Five qubits and a sixth with the generator X: Y and Z on it share a syndrome, and Y is earlier.
     ∷ record {
-      input = "n=6\nd=3\ng=+XZZXII\ng=+IXZZXI\ng=+XIXZZI\ng=+ZXIXZI\ng=-IIIIIX\nx=+XXXXXI\nz=+ZZZZZI\nw=IYYIXI\ns=00001\n";
+      input =
+          "n=6\nd=3\ng=+XZZXII\ng=+IXZZXI\ng=+XIXZZI\ng=+ZXIXZI\ng=-IIIIIX\nx=+XXXXXI\nz=+ZZZZZI\nw=IYYIXI\n"
+          ⧺ "s=00001\n";
       output = "n=6\nk=1\nd=3\nt=1\nh=+YZIZYI\nh=+IXZZXI\nh=+ZZXIXI\nh=+ZIZYYI\nh=-IIIIIX\nc=IIIIIY\n";
     }
     -- Document 000, table 3.3: eight qubits, three of them logical.
@@ -45,7 +50,7 @@ others =
     -- Document 000, table 3.5: 10 at line 6; with another last row 9 at line 8 comes before it.
     ∷ record { input = fourQubits "+IXZZ"; output = "r=10\nat=6\n" }
     ∷ record { input = fourQubits "+IXII"; output = "r=9\nat=8\n" }
-    -- "n=3 with +XII, +ZII: 6, line 4"
+    -- Of three qubits, +XII and +ZII anticommute.
     ∷ record { input = "n=3\nd=1\ng=+XII\ng=+ZII\nx=+IIX\nz=+IIZ\nw=IIX\n"; output = "r=6\nat=4\n" }
     -- K and what stands behind it. Its w is line 6, so its first syndrome is line 7.
     ∷ record { input = sheetK; output = "n=2\nk=1\nd=1\nt=0\nh=+ZZ\n" }
@@ -92,10 +97,14 @@ report24 = refl
 
 -- ---- the call
 
-report-written : writeReport (bytes "n=1\n") (bytes "abcdefghijkl") ≡ record { answer = Written.Count 9; buffer = bytes "r=3\nat=1\njkl" }
+report-written :
+    writeReport (bytes "n=1\n") (bytes "abcdefghijkl")
+    ≡ record { answer = Written.Count 9; buffer = bytes "r=3\nat=1\njkl" }
 unfolding definitions
 report-written = refl
 
-report-short : writeReport (bytes "n=1\n") (bytes "abcdefgh") ≡ untouched (Written.Refused Refusal.ShortBuffer) (bytes "abcdefgh")
+report-short :
+    writeReport (bytes "n=1\n") (bytes "abcdefgh")
+    ≡ untouched (Written.Refused Refusal.ShortBuffer) (bytes "abcdefgh")
 unfolding definitions
 report-short = refl

@@ -1,9 +1,10 @@
--- 32,768 bytes hold every report: 4,096 bytes have at most 1,024 `s=` lines, each with a line of at most 27 bytes.
+-- The longest report has room: an input has at most 1,024 `s=` lines, of 4 bytes at least, and each has a line of
+-- at most 27 bytes; what stands before them, or a refusal in their place, is brief.
 use mathlib.Core.Bool.{Bool, true, false}
 use mathlib.Core.List.{List, [], _∷_, _++_, flatMap}
 use mathlib.Core.Option.{Option, none, some}
 use mathlib.Core.Path.{_≡_, refl, ap}
-use Prim.Native.Nat.{ℕ, zero, suc, _+_, _-_, _*_, _/_, _%_, _≤_}
+use Prim.Native.Nat.{ℕ, zero, suc, _+_, _*_, _/_, _%_, _≤_}
 use native.Mathlib.Nat.{mul-le-mul}
 use native.Mathlib.Omega.{arith}
 use lib.Dec.{lit≤, ltb}
@@ -13,28 +14,25 @@ use Rattle.pauli.specs.Letters.{letterByte}
 use Rattle.pauli.specs.Lists.{bytes}
 use Rattle.sheet.specs.declared.Code.{Code}
 use Rattle.sheet.specs.declared.Refusal.{Refusal}
-use Rattle.sheet.specs.Reader.{Parsed}
-use Rattle.sheet.specs.Record.{generators, logicalCount, radius, claimAt}
+use Rattle.sheet.specs.Reader.{SheetRead, Parsed, got, stop, readLines}
+use Rattle.sheet.specs.Record.{generators, pairCount, logicalCount, radius, mostQubits, longestInput}
 use Rattle.sheet.specs.Refusals.{values}
-use Rattle.sheet.specs.Statements.{ReadIsLawful}
+use Rattle.sheet.specs.Statements.{Sized, ReadIsLawful}
 use Rattle.sheet.specs.Text.{digitsOf, decimal}
 use Rattle.sheet.proofs.Lengths.{length-line, length-rowLines, length-generators}
 use Rattle.sheet.proofs.Limits.{Limits, limits}
 use Rattle.sheet.proofs.Numbers.{IfRefused}
 use Rattle.sheet.proofs.Outcome.{Outcome, gets, stops}
+use Rattle.sheet.proofs.ReadBack.{reads-are-lawful, read-within}
 use Rattle.stabilizer.specs.Canonical.{canonicalGenerators, canonicalText}
-use Rattle.stabilizer.specs.Checks.{generatorFault}
-use Rattle.stabilizer.proofs.Faults.{nothing-then}
-use Rattle.stabilizer.proofs.Theorems.{canonical-generators-are-canonical}
-use Rattle.admission.specs.Admission.{faultButDistance, codeFault}
-use Rattle.admission.specs.Distance.{distanceFault}
+use Rattle.stabilizer.proofs.Theorems.{canonical-generators-are-counted}
 use Rattle.decoder.specs.Correction.{correction}
 use Rattle.decoder.proofs.Earliest.{correction-is-earliest}
-use Rattle.reporting.specs.Report.{refusalText, correctionValue, correctionLine, codeText}
+use Rattle.reporting.specs.Report.{longestReport, refusalText, correctionValue, correctionLine, codeText}
 use Rattle.reporting.specs.Report.{reportOfSyndromes, reportOfCode, reportOfLines, reportText}
-use Rattle.reporting.specs.Statements.{ReportFits, syndromeLineText}
-use Rattle.reporting.proofs.Brief.{Brief, brief, code-brief, claim-few}
-use Rattle.reporting.proofs.BriefReading.{Read, read-brief}
+use Rattle.reporting.specs.Statements.{ReportFits, syndromesText}
+use Rattle.reporting.proofs.Brief.{lastLine, Brief, brief, code-brief, claim-few}
+use Rattle.reporting.proofs.BriefReading.{lines-brief}
 use Rattle.reporting.proofs.Syndromes.{HaveRBits, length-syndrome-lines, syndromes-outcome}
 
 -- ---- numbers and refusals
@@ -54,7 +52,7 @@ decimal-few : (m : ℕ) → length (decimal m) ≤ m + 1
 unfolding decimal
 decimal-few m = omega (arith, digits-few (suc m) m)
 
-refusal-fits : (refusal : Refusal) → Brief refusal → length (refusalText refusal) ≤ 32768
+refusal-fits : (refusal : Refusal) → Brief refusal → length (refusalText refusal) ≤ longestReport
 unfolding refusalText bytes
 refusal-fits refusal h =
     simp (length-append, length-line)
@@ -73,7 +71,7 @@ pub length-correction : (c : Code) (bits : List Bool) (s : List Letter) → corr
     → length (correctionLine c bits) ≡ c .n + 3
 unfolding correctionLine correctionValue bytes
 length-correction c bits s e =
-    rw (length-line, e) (omega (arith, length-map s letterByte, correction-is-earliest .found c bits s e .0 .letters))
+    rw (length-line, e) (omega (arith, length-map s letterByte, correction-is-earliest c bits .found s e .0 .letters))
 
 pub length-no-correction : (c : Code) (bits : List Bool) → correction c bits ≡ none
     → length (correctionLine c bits) ≡ 7
@@ -82,28 +80,21 @@ length-no-correction c bits e = rw (length-line, e)
 
 -- ---- a report that is no refusal
 
-module _ (c : Code) (lawful : ReadIsLawful c) (faultless : codeFault c ≡ none) where
-  within : Limits c
-  within = limits c (lawful .limits)
-
-  generators-faultless : generatorFault (generators c) ≡ none
-  unfolding codeFault faultButDistance
-  generators-faultless =
-      nothing-then (generatorFault (generators c)) _ (nothing-then _ (distanceFault c) faultless .0) .0
-
+-- At most 23 canonical generators, of 24 letters with a sign, a key and a line feed; and `c=` lines of 24 letters
+-- with a key and a line feed.
+module _ (c : Code) (sized : Sized c) (within : Limits c) where
   canonical-few : length (canonicalText c) ≤ 644
-  unfolding canonicalText bytes generators
+  unfolding canonicalText bytes
   canonical-few =
       let hs = canonicalGenerators (c .n) (generators c) in
-      let count =
-      canonical-generators-are-canonical (c .n) (generators c) (within .generatorRows .used) generators-faultless .1 in
-      let r = length-generators c (lawful .sized) within in
-      let few : (length hs ≤ 23) × (c .n ≤ 24) = omega (arith, count, r, within .qubits, within .generatorCount) in
+      let count = canonical-generators-are-counted .few (c .n) (generators c) in
+      let r = length-generators c sized within in
+      let few : (length hs ≤ 23) × (c .n ≤ mostQubits) = omega (arith, within .qubits, within .generatorCount) in
       let rows : length hs * (c .n + 4) ≤ 23 * 28 = mul-le-mul {n₂ = 23} {m₂ = 28} (few .0) (omega arith) in
       rw (length-rowLines "h=" (c .n) hs refl) rows
 
-  pub code-few : length (codeText c) ≤ 720
-  unfolding codeText bytes logicalCount radius
+  code-few : length (codeText c) ≤ 720
+  unfolding codeText bytes logicalCount pairCount radius
   code-few =
       simp (length-append, length-line)
       (omega (
@@ -111,28 +102,28 @@ module _ (c : Code) (lawful : ReadIsLawful c) (faultless : codeFault c ≡ none)
         within .qubits,
         within .distance,
         decimal-few (c .n),
-        decimal-few (c .n - c .r),
+        decimal-few (logicalCount c),
         decimal-few (c .d),
-        decimal-few ((c .d - 1) / 2),
+        decimal-few (radius c),
         canonical-few,
       ))
 
-  pub correction-few : (bits : List Bool) → length (correctionLine c bits) ≤ 27
+  correction-few : (bits : List Bool) → length (correctionLine c bits) ≤ 27
   correction-few bits = go (correction c bits) refl
     where
       go : (o : Option (List Letter)) → correction c bits ≡ o → length (correctionLine c bits) ≤ 27
       go none e = omega (arith, length-no-correction c bits e)
       go (some s) e = omega (arith, length-correction c bits s e, within .qubits)
 
-  pub corrections-few : (syndromes : List (List Bool))
+  corrections-few : (syndromes : List (List Bool))
       → length (flatMap (correctionLine c) syndromes) ≤ 27 * length syndromes
   unfolding flatMap
   corrections-few [] = lit≤ tt
   corrections-few (bits ∷ more) = rw length-append (omega (arith, correction-few bits, corrections-few more))
 
-  syndromes-fit : (rest : List ℕ) {p : Parsed (List (List Bool))} → length rest ≤ 4096
-      → Outcome (λ syndromes end. HaveRBits c syndromes × (rest ≡ flatMap syndromeLineText syndromes)) Brief p
-      → length (reportOfSyndromes c p) ≤ 32768
+  syndromes-fit : (rest : List ℕ) {p : Parsed (List (List Bool))} → length rest ≤ longestInput
+      → Outcome (λ syndromes end. HaveRBits c syndromes × (rest ≡ syndromesText syndromes)) Brief p
+      → length (reportOfSyndromes c p) ≤ longestReport
   unfolding reportOfSyndromes
   syndromes-fit rest few (gets {a = syndromes} h) =
       rw length-append
@@ -147,23 +138,27 @@ module _ (c : Code) (lawful : ReadIsLawful c) (faultless : codeFault c ≡ none)
 
 -- ---- every report
 
-code-fits : (c : Code) (rest : List ℕ) → ReadIsLawful c → length rest ≤ 4096 → (fault : Option Refusal)
-    → codeFault c ≡ fault → IfRefused Brief fault → length (reportOfCode c rest fault) ≤ 32768
+code-fits : (q : SheetRead) (rest : List ℕ) → ReadIsLawful q → length rest ≤ longestInput → {fault : Option Refusal}
+    → IfRefused Brief fault → length (reportOfCode q rest fault) ≤ longestReport
 unfolding reportOfCode
-code-fits c rest lawful few none faultless h =
-    let lines = claim-few c (lawful .sized) (limits c (lawful .limits)) in
-    syndromes-fit c lawful faultless rest few
-    (syndromes-outcome c (length rest) (claimAt c + 1) 5000 rest (omega arith)
+code-fits q rest lawful few IfRefused.unrefused =
+    let within = limits (q .code) (lawful .limits) in
+    let near = claim-few (q .code) (lawful .sized) within in
+    syndromes-fit (q .code) (lawful .sized) within rest few
+    (syndromes-outcome (q .code) (length rest) (q .claimAt + 1) lastLine rest (omega (arith, lawful .claim))
     (λ m last. brief (Refusal.Syndrome m) (lit≤ tt) last refl))
-code-fits c rest lawful few (some refusal) fault (IfRefused.refused h) = refusal-fits refusal h
-
-lines-fit : {s : List ℕ} {p : Parsed Code} → Outcome (Read s) Brief p → length (reportOfLines p) ≤ 32768
-unfolding reportOfLines
-lines-fit (gets {a = c} {rest} h) =
-    code-fits c rest (h .lawful) (h .few) (codeFault c) refl
-    (code-brief c (h .lawful .sized) (limits c (h .lawful .limits)))
-lines-fit (stops {refusal} h) = refusal-fits refusal h
+code-fits q rest lawful few (IfRefused.refused {refusal} h) = refusal-fits refusal h
 
 pub report-fits : ReportFits
-unfolding reportText
-report-fits s = lines-fit (read-brief s)
+unfolding reportText reportOfLines
+report-fits s = go (readLines s) refl (lines-brief s)
+  where
+    go : (p : Parsed SheetRead) → readLines s ≡ p → Outcome (λ q rest. length s ≤ longestInput) Brief p
+        → length (reportOfLines p) ≤ longestReport
+    go (got q rest) e (gets few) =
+        let lawful = reads-are-lawful s q rest e in
+        let within = limits (q .code) (lawful .limits) in
+        let near = claim-few (q .code) (lawful .sized) within in
+        code-fits q rest lawful (omega (arith, read-within s q rest e))
+        (code-brief (q .code) (lawful .sized) within (q .claimAt) (omega (arith, lawful .claim)))
+    go (stop refusal) e (stops h) = refusal-fits refusal h

@@ -1,4 +1,7 @@
--- Demand 3 as a report shows it: the `c=` lines of errors, and the four lines of a refuted distance.
+-- Demand 3 as a report shows it. The `c=` lines of errors have the letters of their corrections, since a report
+-- answers each syndrome as the decoder does; and a refuted distance has the four lines of the refusal, whose two
+-- errors are known from the decoder's guarantee to refute it and from admission to be from the earliest logical
+-- error.
 use mathlib.Core.Bool.{Bool}
 use mathlib.Core.List.{List, _++_, map, append-assoc}
 use mathlib.Core.Option.{some, Option·some-injective}
@@ -10,16 +13,18 @@ use Rattle.pauli.specs.Syndrome.{syndrome}
 use Rattle.sheet.specs.declared.Code.{Code}
 use Rattle.sheet.specs.declared.ErrorPair.{ErrorPair}
 use Rattle.sheet.specs.declared.Refusal.{Refusal}
-use Rattle.sheet.specs.Record.{generators, claimAt}
+use Rattle.sheet.specs.Reader.{SheetRead}
+use Rattle.sheet.specs.Record.{generators, longestInput}
 use Rattle.sheet.specs.Refusals.{values, _then_}
 use Rattle.sheet.specs.Text.{lineFeed, line, digitsOf, decimal}
 use Rattle.stabilizer.proofs.All.{all-every, all-mapped}
 use Rattle.admission.specs.declared.Admission.{Admission}
 use Rattle.admission.specs.Admission.{AdmissibleButForDistance, codeFault, readSheet}
 use Rattle.admission.specs.Distance.{distanceFault}
+use Rattle.admission.specs.Statements.{ShowsEarliest}
 use Rattle.admission.proofs.Admitted.{admitted-as}
-use Rattle.admission.proofs.Pair.{distance-fault, refuting-pair-is-from-earliest}
-use Rattle.decoder.specs.Statements.{IsCorrected, Refutes, RefusedForDistance}
+use Rattle.admission.proofs.RefutingPair.{refusal-is-distance-fault, refuting-pair-is-from-earliest}
+use Rattle.decoder.specs.Statements.{IsCorrected, Refutes, RefusedForDistance, Shows}
 use Rattle.decoder.proofs.Bits.{syndromes-have-r-bits}
 use Rattle.decoder.proofs.Guarantee.{errors-are-corrected, distance-is-decided}
 use Rattle.reporting.specs.Report.{errorsText, refusalText, correctionLine, codeText, reportText}
@@ -27,7 +32,8 @@ use Rattle.reporting.specs.Statements.{syndromeLineText, Struck, errorLi
 use Rattle.reporting.specs.Statements.{RefutationIsReported, GuaranteeInReports}
 use Rattle.reporting.proofs.Call.{is-reported}
 use Rattle.reporting.proofs.Lists.{lines-of-mapped, same-lines}
-use Rattle.reporting.proofs.Report.{corrections-are-reported, refusals-are-reported, syndromes-reported}
+use Rattle.reporting.proofs.Report.{corrections-are-reported, refusals-are-reported}
+use Rattle.reporting.proofs.Report.{lines-before, report-answered}
 
 -- ---- corrections
 
@@ -41,54 +47,64 @@ module _ (s : List ℕ) (h : readSheet s .answer ≡ Admission.Admitted) where
   abbrev bits : Struck own → List Bool
   bits E = syndrome (generators own) (E .error)
 
-  corrections-reported : (errors : List (Struck own)) → length (s ++ errorLines own errors) ≤ 4096
+  corrections-reported : (errors : List (Struck own)) → length (s ++ errorLines own errors) ≤ longestInput
       → reportText (s ++ errorLines own errors) ≡ codeText own ++ correctedLines own struck-corrected errors
   corrections-reported errors few =
       let a = admitted-as s h in
-      let lines = lines-of-mapped syndromeLineText bits errors in
+      let behind = errorLines own errors in
       let counts = all-mapped _ bits errors .1
       (all-every _ (λ (E : Struck own). syndromes-have-r-bits .ofSheet s (E .error) h) errors) in
-      ap (λ (t : List ℕ). reportText (s ++ t)) (sym lines)
-      ∙ syndromes-reported s own (map bits errors) (a .lines) (a .faultless) counts
-      (subst (λ (t : List ℕ). length (s ++ t) ≤ 4096) (sym lines) few)
+      report-answered (s ++ behind) _ behind (lines-before s behind _ (a .lines) few) (a .faultless) (map bits errors)
+      counts (sym (lines-of-mapped syndromeLineText bits errors))
       ∙ ap (λ (t : List ℕ). codeText own ++ t)
       (lines-of-mapped (correctionLine own) bits errors
       ∙ same-lines _ _ (λ (E : Struck own). corrections-are-reported own (E .error) (struck-corrected E)) errors)
 
 -- ---- a refuted distance
 
-code-fault : (s : List ℕ) (c : Code) (refusal : Refusal) → AdmissibleButForDistance s c
-    → distanceFault c ≡ some refusal → codeFault c ≡ some refusal
-unfolding codeFault _then_
-code-fault s c refusal lawful e = ap (λ o. o then distanceFault c) (lawful .checks) ∙ e
-
 fourteen : line "r=" (decimal 14) ≡ bytes "r=14\n"
 unfolding line decimal digitsOf bytes lineFeed
 fourteen = refl
 
-refutation-text : (c : Code) (pair : ErrorPair) → pair .n ≡ c .n
-    → refusalText (Refusal.DistanceRefuted (claimAt c) pair) ≡ refutationText c pair
+refutation-text : (q : SheetRead) (pair : ErrorPair) → pair .n ≡ q .code .n
+    → refusalText (Refusal.DistanceRefuted (q .claimAt) pair) ≡ refutationText q pair
 unfolding refusalText errorsText
-refutation-text c pair qubits = rw (fourteen, qubits) (simp append-assoc)
+refutation-text q pair qubits = rw (fourteen, qubits) (simp append-assoc)
 
-refuted-reported : (s rest : List ℕ) (c : Code) (refusal : Refusal) → AdmissibleButForDistance s c
-    → RefusedForDistance s refusal → length (s ++ rest) ≤ 4096 → RefutationIsReported c (s ++ rest)
-refuted-reported s rest c refusal lawful refused few =
-    let fault = distance-fault s c lawful refusal (refused .0) in
-    let shows = distance-is-decided .shown s c refusal lawful refused in
-    let earliest = refuting-pair-is-from-earliest .ofRecord c refusal fault in
-    let pair = earliest .pair in
-    let same : shows .pair ≡ pair =
-    Option·some-injective (shows .pair) pair (sym (shows .carried) ∙ ap (λ r. values r .errors) (earliest .told)) in
-    let qubits : pair .n ≡ c .n = ap (λ (p : ErrorPair). p .n) (sym same) ∙ shows .qubits in
-    record {
-      pair = pair;
-      refutes = subst (λ (p : ErrorPair). Refutes c (p .e) (p .f)) same (shows .refutes);
-      from = earliest .from;
-      report = is-reported (s ++ rest) (refutationText c pair)
-          (refusals-are-reported s rest c refusal (lawful .form) (code-fault s c refusal lawful fault) few
-          ∙ ap refusalText (earliest .told) ∙ refutation-text c pair qubits);
-    }
+module _
+    (s rest : List ℕ) (q : SheetRead) (refusal : Refusal) (lawful : AdmissibleButForDistance s q)
+    (refused : RefusedForDistance s refusal) (few : length (s ++ rest) ≤ longestInput) where
+  fault : distanceFault (q .claimAt) (q .code) ≡ some refusal
+  fault = refusal-is-distance-fault s q lawful refusal (refused .0)
+
+  code-fault : codeFault (q .claimAt) (q .code) ≡ some refusal
+  unfolding codeFault _then_
+  code-fault = ap (λ o. o then distanceFault (q .claimAt) (q .code)) (lawful .checks) ∙ fault
+
+  earliest : ShowsEarliest (q .claimAt) (q .code) refusal
+  earliest = refuting-pair-is-from-earliest .ofRecord (q .claimAt) (q .code) refusal fault
+
+  shows : Shows q refusal
+  shows = distance-is-decided .shown s q refusal lawful refused
+
+  -- Both speak of the pair that the refusal carries.
+  same-pair : shows .pair ≡ earliest .pair
+  same-pair =
+      Option·some-injective (shows .pair) (earliest .pair)
+      (sym (shows .carried) ∙ ap (λ r. values r .errors) (earliest .told))
+
+  refuted-reported : RefutationIsReported q (s ++ rest)
+  refuted-reported =
+      let pair = earliest .pair in
+      let qubits : pair .n ≡ q .code .n = ap (λ (p : ErrorPair). p .n) (sym same-pair) ∙ shows .qubits in
+      record {
+        pair = pair;
+        refutes = subst (λ (p : ErrorPair). Refutes (q .code) (p .e) (p .f)) same-pair (shows .refutes);
+        from = earliest .from;
+        report = is-reported (s ++ rest) (refutationText q pair)
+            (refusals-are-reported s rest q refusal (lawful .form) code-fault few
+            ∙ ap refusalText (earliest .told) ∙ refutation-text q pair qubits);
+      }
 
 pub guarantee-in-reports : GuaranteeInReports
 guarantee-in-reports = record {

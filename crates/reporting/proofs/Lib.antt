@@ -1,13 +1,13 @@
 pub mod Lists
 pub mod Syndromes
+pub mod Steps
 pub mod Report
+pub mod Logicals
 pub mod Brief
 pub mod BriefReading
 pub mod Fits
 pub mod Call
 pub mod Guarantee
-pub mod Steps
-pub mod Behind
-pub mod Every
+pub mod EveryReport
 pub mod Starred
 pub mod Examples

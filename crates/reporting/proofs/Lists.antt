@@ -1,4 +1,5 @@
--- Lines made from the elements of a list, and what holds of each member.
+-- Lines made from the elements of a list are equal where each of them is, and what holds of each member holds along the
+-- list. Each by induction along the list.
 use mathlib.Core.List.{List, [], _∷_, _++_, map, flatMap}
 use mathlib.Core.List.{List·Mem, List·Memᴰ, List·Memᴰ·head, List·Memᴰ·tail}
 use mathlib.Core.Logic.{∥∥₁-map, ∥∥₁-elim}

@@ -1,30 +1,35 @@
--- What the report is: what its refusal leaves, the letters of a `c=` line, and the report of a sheet that is read.
+-- The report of a sheet that was read, with what stands behind it: the refusal of its checks; or the account of the
+-- code and its corrections; or 16 at the first line that is no syndrome's. Each is one clause of the definition,
+-- and the lines behind w go by the steps of Steps.
 use mathlib.Core.Bool.{Bool}
 use mathlib.Core.List.{List, [], _++_, flatMap, append-nil}
 use mathlib.Core.Option.{Option, none}
-use mathlib.Core.Path.{_≡_, refl, ap, sym, _∙_}
-use Prim.Native.Nat.{ℕ, _+_, _≤_}
-use native.Mathlib.Omega.{arith}
+use mathlib.Core.Path.{_≡_, refl, ap, ap₂, sym, _∙_}
+use Prim.Native.Nat.{ℕ, _+_, _≤_, _<_}
 use lib.ListN.{length}
 use Rattle.pauli.specs.Lists.{anyOf}
 use Rattle.pauli.specs.declared.Letter.{Letter}
 use Rattle.sheet.specs.declared.Code.{Code}
-use Rattle.sheet.specs.Reader.{got, readLines}
-use Rattle.sheet.specs.Record.{claimAt}
+use Rattle.sheet.specs.declared.Refusal.{Refusal}
+use Rattle.sheet.specs.Reader.{SheetRead, got, readLines}
+use Rattle.sheet.specs.Record.{longestInput}
+use Rattle.sheet.specs.Statements.{ReadIsLawful}
 use Rattle.sheet.specs.Text.{line}
 use Rattle.sheet.specs.Writer.{sheetText}
 use Rattle.sheet.proofs.Numbers.{IfRefused, law-of-refusal, written-lawful}
 use Rattle.sheet.proofs.ReadBack.{reads-are-lawful, write-after-read}
 use Rattle.sheet.proofs.Untouched.{written-leaves}
 use Rattle.sheet.proofs.WrittenRead.{read-after-write}
-use Rattle.admission.specs.Admission.{codeFault, readSheet}
-use Rattle.admission.proofs.Admitted.{form-alone, admitted-as}
-use Rattle.reporting.specs.Report.{correctionValue, correctionLine, codeText, writeReport}
+use Rattle.admission.specs.Admission.{codeFault}
+use Rattle.admission.proofs.Admitted.{form-has-nothing-behind, admitted-as, admitted-faultless}
+use Rattle.reporting.specs.Report.{refusalText, correctionValue, correctionLine, codeText, writeReport}
 use Rattle.reporting.specs.Report.{reportOfSyndromes, reportOfCode, reportOfLines, reportText}
 use Rattle.reporting.specs.Statements.{ReportRefusalsLeave, ReportRefusalNumbers, CorrectionsAreReported}
-use Rattle.reporting.specs.Statements.{syndromeLineText, RefusalsAreReported, SyndromesAreReported}
+use Rattle.reporting.specs.Statements.{syndromesText, NoSyndrome, RefusalsAreReported, SyndromesAreReported}
+use Rattle.reporting.specs.Statements.{BadLinesAreReported}
 use Rattle.reporting.proofs.Lists.{all-members}
-use Rattle.reporting.proofs.Syndromes.{HaveRBits, syndromes-return}
+use Rattle.reporting.proofs.Steps.{before, linesFrom, lines-then, lines-return, bad-line}
+use Rattle.reporting.proofs.Syndromes.{HaveRBits}
 
 -- ---- the call
 
@@ -42,41 +47,77 @@ unfolding correctionLine correctionValue
 corrections-are-reported c E corrected =
     ap (λ (found : Option (List Letter)). line "c=" (correctionValue found)) (corrected .found)
 
+-- ---- an input whose lines were read
+
+module _ (input : List ℕ) (q : SheetRead) (rest : List ℕ) (lines : readLines input ≡ got q rest) where
+  abbrev own : Code
+  own = q .code
+
+  -- The line behind w.
+  abbrev first : ℕ
+  first = q .claimAt + 1
+
+  pub report-by-fault : (fault : Option Refusal) → codeFault (q .claimAt) own ≡ fault
+      → reportText input ≡ reportOfCode q rest fault
+  unfolding reportText reportOfLines
+  report-by-fault fault e = ap reportOfLines lines ∙ ap (reportOfCode q rest) e
+
+  module _
+      (faultless : codeFault (q .claimAt) own ≡ none) (syndromes : List (List Bool)) (all : HaveRBits own syndromes)
+    where
+      report-by-lines : reportText input ≡ reportOfSyndromes own (linesFrom own first rest)
+      unfolding reportOfCode
+      report-by-lines = report-by-fault none faultless
+
+      pub report-answered : rest ≡ syndromesText syndromes
+          → reportText input ≡ codeText own ++ flatMap (correctionLine own) syndromes
+      unfolding reportOfSyndromes
+      report-answered e =
+          report-by-lines
+          ∙ ap (reportOfSyndromes own) (ap (linesFrom own first) e ∙ lines-return own syndromes first all)
+
+      pub report-misread : (behind : List ℕ) → rest ≡ syndromesText syndromes ++ behind → 0 < length behind
+          → NoSyndrome (own .r) behind
+          → reportText input ≡ refusalText (Refusal.Syndrome (first + length syndromes))
+      unfolding reportOfSyndromes before
+      report-misread behind e some bad =
+          report-by-lines
+          ∙ ap (reportOfSyndromes own)
+          (ap (linesFrom own first) e ∙ lines-then own syndromes first behind all
+          ∙ ap (before syndromes) (bad-line own (first + length syndromes) behind some bad))
+
 -- ---- a sheet and what stands behind it
 
--- The lines of a sheet are read alike with anything behind them.
-pub lines-before : (s rest : List ℕ) (c : Code) → readLines s ≡ got c [] → length (s ++ rest) ≤ 4096
-    → readLines (s ++ rest) ≡ got c rest
-lines-before s rest c lines few =
-    let lawful = reads-are-lawful s c [] lines in
-    let text : sheetText c ≡ s = rw append-nil at (write-after-read s c [] lines) in
-    ap (λ (t : List ℕ). readLines (t ++ rest)) (sym text)
-    ∙ read-after-write c rest (lawful .sized) (lawful .limits) (rw text few)
-    ∙ ap (λ (k : Code). got k rest) (lawful .phases)
+-- A lawful reading is what is read of its record's sheet, with anything behind.
+pub lawful-returns : (q : SheetRead) → ReadIsLawful q → (rest : List ℕ)
+    → length (sheetText (q .code) ++ rest) ≤ longestInput → readLines (sheetText (q .code) ++ rest) ≡ got q rest
+lawful-returns q lawful rest few =
+    read-after-write (q .code) rest (lawful .sized) (lawful .limits) few
+    ∙ ap₂ (λ (c : Code) (at : ℕ). got (record { code = c; claimAt = at }) rest) (lawful .phases) (sym (lawful .claim))
 
--- The report is that of the sheet's record.
-pub report-of-lines : (s rest : List ℕ) (c : Code) → readLines s ≡ got c [] → length (s ++ rest) ≤ 4096
-    → reportText (s ++ rest) ≡ reportOfCode c rest (codeFault c)
-unfolding reportText reportOfLines
-report-of-lines s rest c lines few = ap reportOfLines (lines-before s rest c lines few)
+-- The lines of a sheet are read alike with anything behind them.
+pub lines-before : (s rest : List ℕ) (q : SheetRead) → readLines s ≡ got q [] → length (s ++ rest) ≤ longestInput
+    → readLines (s ++ rest) ≡ got q rest
+lines-before s rest q lines few =
+    let text : sheetText (q .code) ≡ s = rw append-nil at (write-after-read s q [] lines) in
+    ap (λ (t : List ℕ). readLines (t ++ rest)) (sym text)
+    ∙ lawful-returns q (reads-are-lawful s q [] lines) rest (rw text few)
 
 pub refusals-are-reported : RefusalsAreReported
 unfolding reportOfCode
-refusals-are-reported s rest c refusal form fault few =
-    report-of-lines s rest c (form-alone s c [] form) few ∙ ap (reportOfCode c rest) fault
-
--- The report of an admitted sheet and the lines of syndromes.
-pub syndromes-reported : (s : List ℕ) (c : Code) (syndromes : List (List Bool)) → readLines s ≡ got c []
-    → codeFault c ≡ none → HaveRBits c syndromes → length (s ++ flatMap syndromeLineText syndromes) ≤ 4096
-    → reportText (s ++ flatMap syndromeLineText syndromes) ≡ codeText c ++ flatMap (correctionLine c) syndromes
-unfolding reportOfCode reportOfSyndromes
-syndromes-reported s c syndromes lines faultless all few =
-    let behind = flatMap syndromeLineText syndromes in
-    report-of-lines s behind c lines few
-    ∙ ap (reportOfCode c behind) faultless
-    ∙ ap (reportOfSyndromes c) (syndromes-return c (length behind) (claimAt c + 1) syndromes all (omega arith))
+refusals-are-reported s rest q refusal form fault few =
+    report-by-fault _ q rest (lines-before s rest q (form-has-nothing-behind s q [] form) few) _ fault
 
 pub syndromes-are-reported : SyndromesAreReported
 syndromes-are-reported s syndromes h counts few =
     let a = admitted-as s h in
-    syndromes-reported s (readSheet s .code) syndromes (a .lines) (a .faultless) (all-members _ syndromes counts) few
+    let behind = syndromesText syndromes in
+    report-answered (s ++ behind) _ behind (lines-before s behind _ (a .lines) few) (a .faultless) syndromes
+    (all-members _ syndromes counts) refl
+
+pub bad-lines-are-reported : BadLinesAreReported
+bad-lines-are-reported s q syndromes rest form h counts bad some few =
+    let behind = syndromesText syndromes ++ rest in
+    let lines = lines-before s behind q (form-has-nothing-behind s q [] form) few in
+    report-misread (s ++ behind) q behind lines (admitted-faultless s q form h) syndromes
+    (all-members _ syndromes counts) rest refl some bad

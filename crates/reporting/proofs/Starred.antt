@@ -1,5 +1,5 @@
--- The starred sheets, from the definitions: every entry of the table is right, the answer of the sheet read by itself and the bytes of its report.
--- The table is computed. Assumes nothing.
+-- The starred sheets: every entry of the table is right, the answer of the sheet read by itself and the bytes of
+-- its report. Each is computed from the definitions.
 use mathlib.Core.List.{List·Memᴰ}
 use mathlib.Core.Path.{_≡_, refl}
 use Prim.Native.String.{_++_}
@@ -19,6 +19,6 @@ starred-reports : (e : Entry) → List·Memᴰ e starred → reportText (bytes (
 unfolding definitions
 starred-reports = each (λ e. reportText (bytes (e .sheet ++ e .behind))) (λ e. bytes (e .report)) starred refl
 
--- The theorem: every starred sheet has the answer and the report that 01 gives it.
+-- Every starred sheet has the answer and the report that the table gives it.
 pub starred-right : (e : Entry) → List·Memᴰ e starred → Right e
 starred-right e m = record { answer = starred-answers e m; report = starred-reports e m }

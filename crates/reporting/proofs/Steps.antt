@@ -1,6 +1,7 @@
--- The `s=` lines one by one: a line and then the others, lines and what stands behind them, the first bad line.
+-- The `s=` lines one by one: a line and then the others, lines of syndromes and what stands behind them, the first line
+-- that is none. That the bound on the lines does not matter, where it is large enough, makes each a step.
 use mathlib.Core.Bool.{Bool}
-use mathlib.Core.List.{List, [], _∷_, _++_, flatMap, append-assoc}
+use mathlib.Core.List.{List, [], _∷_, _++_, flatMap, append-assoc, append-nil}
 use mathlib.Core.Path.{_≡_, refl, ap, ap₂, sym, _∙_}
 use Prim.Native.Nat.{ℕ, zero, suc, _+_, _≤_, _<_}
 use native.Mathlib.Omega.{arith}
@@ -16,7 +17,7 @@ use Rattle.sheet.proofs.Outcome.{Outcome, gets, stops, what-was-got, Took}
 use Rattle.decoder.specs.Syndrome.{syndromeText, readSyndrome}
 use Rattle.decoder.proofs.Bits.{syndrome-written}
 use Rattle.reporting.specs.Report.{syndromeLine, syndromeLines}
-use Rattle.reporting.specs.Statements.{syndromeLineText}
+use Rattle.reporting.specs.Statements.{syndromeLineText, syndromesText, NoSyndrome}
 use Rattle.reporting.proofs.Syndromes.{HaveRBits, line-read, one-line}
 use Rattle.reporting.proofs.Syndromes.{length-syndromeText, length-syndrome-line}
 
@@ -135,24 +136,32 @@ module _ (c : Code) where
   -- ---- lines of syndromes, and what stands behind them
 
   pub lines-then : (syndromes : List (List Bool)) (at : ℕ) (rest : List ℕ) → HaveRBits c syndromes
-      → linesFrom at (flatMap syndromeLineText syndromes ++ rest)
+      → linesFrom at (syndromesText syndromes ++ rest)
       ≡ before syndromes (linesFrom (at + length syndromes) rest)
   unfolding flatMap
   lines-then [] at rest all =
       let here : at ≡ at + 0 = omega arith in
       sym (before-none (linesFrom at rest)) ∙ ap (λ (at : ℕ). before [] (linesFrom at rest)) here
   lines-then (bits ∷ more) at rest all =
-      let behind = flatMap syndromeLineText more ++ rest in
+      let behind = syndromesText more ++ rest in
       let places : at + 1 + length more ≡ at + suc (length more) = omega arith in
-      ap (linesFrom at) (append-assoc (syndromeLineText bits) (flatMap syndromeLineText more) rest)
+      ap (linesFrom at) (append-assoc (syndromeLineText bits) (syndromesText more) rest)
       ∙ lines-got at (syndromeLineText bits ++ behind) bits behind (line-read c at bits behind (all .0))
       ∙ ap (before (bits ∷ [])) (lines-then more (at + 1) rest (all .1))
       ∙ before-one bits more (linesFrom (at + 1 + length more) rest)
       ∙ ap (λ (at : ℕ). before (bits ∷ more) (linesFrom at rest)) places
 
+  pub lines-return : (syndromes : List (List Bool)) (at : ℕ) → HaveRBits c syndromes
+      → linesFrom at (syndromesText syndromes) ≡ got syndromes []
+  unfolding before
+  lines-return syndromes at all =
+      ap (linesFrom at) (sym (append-nil (syndromesText syndromes)))
+      ∙ lines-then syndromes at [] all
+      ∙ ap (before syndromes) (lines-ended (at + length syndromes))
+      ∙ ap (λ (l : List (List Bool)). got l []) (append-nil syndromes)
+
   -- Bytes that do not begin with the line of a syndrome are refused there.
-  pub bad-line : (at : ℕ) (s : List ℕ) → 0 < length s
-      → ((bits : List Bool) (behind : List ℕ) → length bits ≡ c .r → s ≡ syndromeLineText bits ++ behind → ⊥)
+  pub bad-line : (at : ℕ) (s : List ℕ) → 0 < length s → NoSyndrome (c .r) s
       → linesFrom at s ≡ stop (Refusal.Syndrome at)
   bad-line at s some bad = lines-stopped at s (Refusal.Syndrome at) some (go (syndrome-line-outcome at s))
     where

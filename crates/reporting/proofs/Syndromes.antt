@@ -1,4 +1,5 @@
--- The `s=` lines: the lines of syndromes are read as those syndromes, and what was read is such lines.
+-- The line of a syndrome is read as that syndrome, and the `s=` lines that were read are lines of syndromes of r
+-- bits: what is known of one line, from its value, and then of the others behind it.
 use mathlib.Core.Bool.{Bool}
 use mathlib.Core.List.{List, [], _∷_, _++_, flatMap}
 use mathlib.Core.Path.{_≡_, refl, ap, _∙_}
@@ -8,16 +9,15 @@ use lib.ListN.{length, length-append, length-map}
 use Rattle.pauli.specs.Lists.{bytes}
 use Rattle.sheet.specs.declared.Code.{Code}
 use Rattle.sheet.specs.declared.Refusal.{Refusal}
-use Rattle.sheet.specs.Reader.{got, continue, done, _andThen_}
+use Rattle.sheet.specs.Reader.{got, done, _andThen_}
 use Rattle.sheet.proofs.Lengths.{length-line}
 use Rattle.sheet.proofs.Line.{line-outcome, line-returns}
 use Rattle.sheet.proofs.Outcome.{Outcome, gets, stops, continue-outcome}
 use Rattle.stabilizer.proofs.All.{All}
 use Rattle.decoder.specs.Syndrome.{bitByte, syndromeText, readSyndrome}
-use Rattle.decoder.proofs.Bits.{syndrome-written}
-use Rattle.decoder.proofs.Corrected.{syndrome-read}
+use Rattle.decoder.proofs.Bits.{syndrome-read, syndrome-written}
 use Rattle.reporting.specs.Report.{syndromeLine, syndromeLines}
-use Rattle.reporting.specs.Statements.{syndromeLineText}
+use Rattle.reporting.specs.Statements.{syndromeLineText, syndromesText}
 
 pub length-syndromeText : (bits : List Bool) → length (syndromeText bits) ≡ length bits
 unfolding syndromeText
@@ -34,7 +34,7 @@ module _ (c : Code) where
   HaveRBits = All (λ bits. length bits ≡ c .r)
 
   pub length-syndrome-lines : (syndromes : List (List Bool)) → 1 ≤ c .r → HaveRBits syndromes
-      → 4 * length syndromes ≤ length (flatMap syndromeLineText syndromes)
+      → 4 * length syndromes ≤ length (syndromesText syndromes)
   unfolding flatMap
   length-syndrome-lines [] some all = omega arith
   length-syndrome-lines (bits ∷ more) some all =
@@ -58,31 +58,12 @@ module _ (c : Code) where
   one-line most at [] h = absurd (omega arith)
   one-line most at (b ∷ s) h = refl
 
-  pub syndromes-return : (most at : ℕ) (syndromes : List (List Bool)) → HaveRBits syndromes
-      → length (flatMap syndromeLineText syndromes) ≤ most
-      → syndromeLines most c at (flatMap syndromeLineText syndromes) ≡ got syndromes []
-  unfolding flatMap continue done syndromeLines
-  syndromes-return zero at [] all few = refl
-  syndromes-return zero at (bits ∷ more) all few =
-      absurd (omega (
-        arith,
-        length-syndrome-line bits,
-        length-append (syndromeLineText bits) (flatMap syndromeLineText more),
-      ))
-  syndromes-return (suc most) at [] all few = refl
-  syndromes-return (suc most) at (bits ∷ more) all few =
-      let behind = flatMap syndromeLineText more in
-      let counts = length-append (syndromeLineText bits) behind in
-      let first = length-syndrome-line bits in
-      one-line most at (syndromeLineText bits ++ behind) (omega arith)
-      ∙ rw (line-read at bits behind (all .0), syndromes-return most (at + 1) more (all .1) (omega arith))
-
   -- ---- what was read is such lines
 
   -- What holds of 16 at each of the lines holds of the refusal.
   pub syndromes-outcome : {Stop : Refusal → Type 0} (most at last : ℕ) (s : List ℕ) → at + most ≤ last
       → ((m : ℕ) → m ≤ last → Stop (Refusal.Syndrome m))
-      → Outcome (λ syndromes end. HaveRBits syndromes × (s ≡ flatMap syndromeLineText syndromes)) Stop
+      → Outcome (λ syndromes end. HaveRBits syndromes × (s ≡ syndromesText syndromes)) Stop
       (syndromeLines most c at s)
   unfolding flatMap syndromeLines syndromeLine done
   syndromes-outcome zero at last [] few told = gets (tt, refl)

@@ -15,8 +15,8 @@ use Rattle.sheet.specs.declared.Code.{Code}
 use Rattle.sheet.specs.declared.ErrorPair.{ErrorPair}
 use Rattle.sheet.specs.declared.Refusal.{Refusal}
 use Rattle.sheet.specs.declared.Written.{Written}
-use Rattle.sheet.specs.Reader.{got, stop, readLines, readForm}
-use Rattle.sheet.specs.Record.{generators, claimAt, onQubits, radius}
+use Rattle.sheet.specs.Reader.{SheetRead, got, stop, readLines, readForm}
+use Rattle.sheet.specs.Record.{generators, onQubits, radius, longestInput}
 use Rattle.sheet.specs.Refusals.{writtenRefusal}
 use Rattle.sheet.specs.Statements.{RefusalLeaves, Among}
 use Rattle.sheet.specs.Text.{line, decimal, laid, untouched}
@@ -25,16 +25,18 @@ use Rattle.admission.specs.Admission.{AdmissibleButForDistance, codeFault, admi
 use Rattle.admission.specs.Statements.{FromEarliest}
 use Rattle.decoder.specs.Syndrome.{syndromeText}
 use Rattle.decoder.specs.Statements.{IsCorrected, Refutes, RefusedForDistance}
-use Rattle.reporting.specs.Report.{codeText, correctionLine, refusalText, reportText, writeReport}
+use Rattle.reporting.specs.Report.{longestReport, codeText, correctionLine, refusalText, reportText, writeReport}
 
--- 01: "32,768 bytes always hold its output."
+-- ---- the call
+
+-- RULES, "The report": no report is longer than this.
 abbrev pub ReportFits : Type 0
-ReportFits = (s : List ℕ) → length (reportText s) ≤ 32768
+ReportFits = (s : List ℕ) → length (reportText s) ≤ longestReport
 
--- The call writes this text and answers its length, in every buffer of at least 32,768 bytes and in every one that is
--- as long as the text; a shorter one is refused with 17.
+-- The call writes this text and answers its length, in every buffer that holds the longest report and in every one that
+-- is as long as the text; a shorter one is refused with 17.
 pub record IsReported (input text : List ℕ) : Type 0 where
-  pub written : (buffer : List ℕ) → (32768 ≤ length buffer) ⊎ (length text ≤ length buffer)
+  pub written : (buffer : List ℕ) → (longestReport ≤ length buffer) ⊎ (length text ≤ length buffer)
       → writeReport input buffer ≡ record { answer = Written.Count (length text); buffer = laid text buffer }
   pub short : (buffer : List ℕ) → length buffer < length text
       → writeReport input buffer ≡ untouched (Written.Refused Refusal.ShortBuffer) buffer
@@ -42,48 +44,59 @@ pub record IsReported (input text : List ℕ) : Type 0 where
 abbrev pub ReportIsWritten : Type 0
 ReportIsWritten = (input : List ℕ) → IsReported input (reportText input)
 
--- The one refusal of a report's call is 17, and it leaves the buffer as it was.
+-- RULES, "Calls and buffers": the one refusal of a report's call is 17, and it leaves the buffer as it was.
 abbrev pub ReportRefusalNumbers : Type 0
 ReportRefusalNumbers =
-    (s buffer : List ℕ) (refusal : Refusal) → writtenRefusal (writeReport s buffer .answer) ≡ some refusal → Among (17 ∷ []) refusal
+    (s buffer : List ℕ) (refusal : Refusal) → writtenRefusal (writeReport s buffer .answer) ≡ some refusal
+    → Among (17 ∷ []) refusal
 
 abbrev pub ReportRefusalsLeave : Type 0
 ReportRefusalsLeave = (s buffer : List ℕ) → RefusalLeaves writtenRefusal buffer (writeReport s buffer)
 
--- A sheet that 6 to 14 refuse has that refusal as its report, whatever stands behind it. So the `e=` and `f=` of a report are the two errors
--- that refusal 14 carries.
-abbrev pub RefusalsAreReported : Type 0
-RefusalsAreReported =
-    (s rest : List ℕ) (c : Code) (refusal : Refusal) → readForm s ≡ got c [] → codeFault c ≡ some refusal
-    → length (s ++ rest) ≤ 4096 → reportText (s ++ rest) ≡ refusalText refusal
+-- ---- a sheet and what stands behind it
 
--- The `s=` line of a syndrome.
+-- The `s=` line of a syndrome, and the lines of several.
 abbrev pub syndromeLineText : List Bool → List ℕ
 syndromeLineText bits = line "s=" (syndromeText bits)
+
+abbrev pub syndromesText : List (List Bool) → List ℕ
+syndromesText syndromes = flatMap syndromeLineText syndromes
+
+-- Each of the syndromes has r bits.
+abbrev pub HaveBits : ℕ → List (List Bool) → Type 0
+HaveBits r syndromes = (bits : List Bool) → List·Mem bits syndromes → length bits ≡ r
+
+-- The bytes do not begin with the line of a syndrome of r bits.
+abbrev pub NoSyndrome : ℕ → List ℕ → Type 0
+NoSyndrome r s = (bits : List Bool) (behind : List ℕ) → length bits ≡ r → s ≡ syndromeLineText bits ++ behind → ⊥
+
+-- A sheet that 6 to 14 refuse has that refusal as its report, whatever stands behind it. So the `e=` and `f=` of a
+-- report are the two errors that refusal 14 carries.
+abbrev pub RefusalsAreReported : Type 0
+RefusalsAreReported =
+    (s rest : List ℕ) (q : SheetRead) (refusal : Refusal) → readForm s ≡ got q []
+    → codeFault (q .claimAt) (q .code) ≡ some refusal → length (s ++ rest) ≤ longestInput
+    → reportText (s ++ rest) ≡ refusalText refusal
 
 -- An admitted sheet and any syndromes behind it have one `c=` line for each syndrome.
 abbrev pub SyndromesAreReported : Type 0
 SyndromesAreReported =
     (s : List ℕ) (syndromes : List (List Bool)) → readSheet s .answer ≡ Admission.Admitted
-    → ((bits : List Bool) → List·Mem bits syndromes → length bits ≡ readSheet s .code .r)
-    → length (s ++ flatMap syndromeLineText syndromes) ≤ 4096
-    → reportText (s ++ flatMap syndromeLineText syndromes)
+    → HaveBits (readSheet s .code .r) syndromes → length (s ++ syndromesText syndromes) ≤ longestInput
+    → reportText (s ++ syndromesText syndromes)
     ≡ codeText (readSheet s .code) ++ flatMap (correctionLine (readSheet s .code)) syndromes
 
--- The first line behind w that is not `s=`, r characters 0 or 1 and a line feed is refused with 16, whatever stands
--- behind it.
+-- RULES, "The report": the first line behind w that is not a syndrome's is refused with 16, whatever stands behind it.
 abbrev pub BadLinesAreReported : Type 0
 BadLinesAreReported =
-    (s : List ℕ) (syndromes : List (List Bool)) (rest : List ℕ) → readSheet s .answer ≡ Admission.Admitted
-    → ((bits : List Bool) → List·Mem bits syndromes → length bits ≡ readSheet s .code .r)
-    → ((bits : List Bool) (behind : List ℕ) → length bits ≡ readSheet s .code .r
-    → rest ≡ syndromeLineText bits ++ behind → ⊥)
-    → 0 < length rest → length (s ++ (flatMap syndromeLineText syndromes ++ rest)) ≤ 4096
-    → reportText (s ++ (flatMap syndromeLineText syndromes ++ rest))
-    ≡ refusalText (Refusal.Syndrome (claimAt (readSheet s .code) + 1 + length syndromes))
+    (s : List ℕ) (q : SheetRead) (syndromes : List (List Bool)) (rest : List ℕ) → readForm s ≡ got q []
+    → readSheet s .answer ≡ Admission.Admitted → HaveBits (q .code .r) syndromes → NoSyndrome (q .code .r) rest
+    → 0 < length rest → length (s ++ (syndromesText syndromes ++ rest)) ≤ longestInput
+    → reportText (s ++ (syndromesText syndromes ++ rest))
+    ≡ refusalText (Refusal.Syndrome (q .claimAt + 1 + length syndromes))
 
--- Of an admitted sheet the report shows n, d and the generators: whatever its logicals and its w are, the report is
--- the same.
+-- Of an admitted sheet the report shows n, d and the generators: whatever its logicals and its w are, the report is the
+-- same.
 pub record SameCode (c c′ : Code) : Type 0 where
   pub qubits : c .n ≡ c′ .n
   pub rows : c .r ≡ c′ .r
@@ -94,39 +107,39 @@ abbrev pub LogicalsAreNotReported : Type 0
 LogicalsAreNotReported =
     (s s′ : List ℕ) (syndromes : List (List Bool)) → readSheet s .answer ≡ Admission.Admitted
     → readSheet s′ .answer ≡ Admission.Admitted → SameCode (readSheet s .code) (readSheet s′ .code)
-    → ((bits : List Bool) → List·Mem bits syndromes → length bits ≡ readSheet s .code .r)
-    → length (s ++ flatMap syndromeLineText syndromes) ≤ 4096
-    → length (s′ ++ flatMap syndromeLineText syndromes) ≤ 4096
-    → reportText (s ++ flatMap syndromeLineText syndromes) ≡ reportText (s′ ++ flatMap syndromeLineText syndromes)
+    → HaveBits (readSheet s .code .r) syndromes → length (s ++ syndromesText syndromes) ≤ longestInput
+    → length (s′ ++ syndromesText syndromes) ≤ longestInput
+    → reportText (s ++ syndromesText syndromes) ≡ reportText (s′ ++ syndromesText syndromes)
+
+-- ---- every report
 
 -- Every report is one of these: a refusal of the lines' form; a refusal of 6 to 14; a refusal of the first line behind
 -- w that is no syndrome's; the account of an admitted sheet, with a correction for each syndrome behind it.
 pub data ReportOf (input : List ℕ) : Type 0 where
   unread : (refusal : Refusal) → readLines input ≡ stop refusal → reportText input ≡ refusalText refusal
       → ReportOf input
-  faulty : (s rest : List ℕ) (c : Code) (refusal : Refusal) → input ≡ s ++ rest → readForm s ≡ got c []
-      → codeFault c ≡ some refusal → reportText input ≡ refusalText refusal → ReportOf input
-  misread : (s rest : List ℕ) (c : Code) (syndromes : List (List Bool))
-      → input ≡ s ++ (flatMap syndromeLineText syndromes ++ rest) → readSheet s ≡ admitted c
-      → ((bits : List Bool) → List·Mem bits syndromes → length bits ≡ c .r) → 0 < length rest
-      → ((bits : List Bool) (behind : List ℕ) → length bits ≡ c .r → rest ≡ syndromeLineText bits ++ behind → ⊥)
-      → reportText input ≡ refusalText (Refusal.Syndrome (claimAt c + 1 + length syndromes)) → ReportOf input
-  answered : (s : List ℕ) (c : Code) (syndromes : List (List Bool)) → input ≡ s ++ flatMap syndromeLineText syndromes
-      → readSheet s ≡ admitted c → ((bits : List Bool) → List·Mem bits syndromes → length bits ≡ c .r)
+  faulty : (s rest : List ℕ) (q : SheetRead) (refusal : Refusal) → input ≡ s ++ rest → readForm s ≡ got q []
+      → codeFault (q .claimAt) (q .code) ≡ some refusal → reportText input ≡ refusalText refusal → ReportOf input
+  misread : (s rest : List ℕ) (q : SheetRead) (syndromes : List (List Bool))
+      → input ≡ s ++ (syndromesText syndromes ++ rest) → readForm s ≡ got q [] → readSheet s ≡ admitted (q .code)
+      → HaveBits (q .code .r) syndromes → 0 < length rest → NoSyndrome (q .code .r) rest
+      → reportText input ≡ refusalText (Refusal.Syndrome (q .claimAt + 1 + length syndromes)) → ReportOf input
+  answered : (s : List ℕ) (c : Code) (syndromes : List (List Bool)) → input ≡ s ++ syndromesText syndromes
+      → readSheet s ≡ admitted c → HaveBits (c .r) syndromes
       → reportText input ≡ codeText c ++ flatMap (correctionLine c) syndromes → ReportOf input
 
 abbrev pub EveryReport : Type 0
 EveryReport = (input : List ℕ) → ReportOf input
 
--- Demand 3 for the `c=` line: of an error that is corrected it has the correction's letters.
+-- ---- demand 3 in a report
+
+-- RULES, "Guarantees": the `c=` line of an error that is corrected has the correction's letters.
 abbrev pub CorrectionsAreReported : Type 0
 CorrectionsAreReported =
     (c : Code) (E : Pauli) (corrected : IsCorrected c E)
     → correctionLine c (syndrome (generators c) E) ≡ line "c=" (map letterByte (corrected .letters))
 
--- ---- demand 3 as a report shows it
-
--- "Whatever Pauli error E strikes at most t of its qubits": an error that is to be corrected.
+-- An error that is to be corrected: a Pauli on the code's qubits, of weight at most t.
 pub record Struck (c : Code) : Type 0 where
   pub error : Pauli
   pub onCode : onQubits (c .n) error ≡ true
@@ -142,29 +155,29 @@ correctedLines c corrected errors =
     flatMap (λ (E : Struck c). line "c=" (map letterByte (corrected E .letters))) errors
 
 -- The lines `r=14`, `at=` with w's line, `e=` and `f=`.
-abbrev pub refutationText : Code → ErrorPair → List ℕ
-refutationText c pair =
-    bytes "r=14\n" ++ line "at=" (decimal (claimAt c)) ++ line "e=" (letterText (c .n) (pair .e))
-    ++ line "f=" (letterText (c .n) (pair .f))
+abbrev pub refutationText : SheetRead → ErrorPair → List ℕ
+refutationText q pair =
+    bytes "r=14\n" ++ line "at=" (decimal (q .claimAt)) ++ line "e=" (letterText (q .code .n) (pair .e))
+    ++ line "f=" (letterText (q .code .n) (pair .f))
 
 -- The report has those four lines and no other, with two errors that refute the distance, from the earliest logical
 -- error.
-pub record RefutationIsReported (c : Code) (input : List ℕ) : Type 0 where
+pub record RefutationIsReported (q : SheetRead) (input : List ℕ) : Type 0 where
   pub pair : ErrorPair
-  pub refutes : Refutes c (pair .e) (pair .f)
-  pub from : FromEarliest c pair
-  pub report : IsReported input (refutationText c pair)
+  pub refutes : Refutes (q .code) (pair .e) (pair .f)
+  pub from : FromEarliest (q .code) pair
+  pub report : IsReported input (refutationText q pair)
 
--- Demand 3 of the report's call. Behind an admitted sheet, the syndrome of each error that strikes at most t qubits
--- has a `c=` line with the letters of its correction. A sheet lawful in all else that 14 refuses has a refutation as
--- its report, whatever stands behind it.
+-- RULES, "Guarantees": demand 3 of the report's call. Behind an admitted sheet, the syndrome of each error that strikes
+-- at most t qubits has a `c=` line with the letters of its correction. A sheet that is admissible but for distance and
+-- that 14 refuses has a refutation as its report, whatever stands behind it.
 pub record GuaranteeInReports : Type 0 where
   pub corrected : (s : List ℕ) → readSheet s .answer ≡ Admission.Admitted → (E : Struck (readSheet s .code))
       → IsCorrected (readSheet s .code) (E .error)
   pub reported : (s : List ℕ) (h : readSheet s .answer ≡ Admission.Admitted)
       (errors : List (Struck (readSheet s .code)))
-      → length (s ++ errorLines (readSheet s .code) errors) ≤ 4096
+      → length (s ++ errorLines (readSheet s .code) errors) ≤ longestInput
       → IsReported (s ++ errorLines (readSheet s .code) errors)
       (codeText (readSheet s .code) ++ correctedLines (readSheet s .code) (corrected s h) errors)
-  pub refuted : (s rest : List ℕ) (c : Code) (refusal : Refusal) → AdmissibleButForDistance s c
-      → RefusedForDistance s refusal → length (s ++ rest) ≤ 4096 → RefutationIsReported c (s ++ rest)
+  pub refuted : (s rest : List ℕ) (q : SheetRead) (refusal : Refusal) → AdmissibleButForDistance s q
+      → RefusedForDistance s refusal → length (s ++ rest) ≤ longestInput → RefutationIsReported q (s ++ rest)

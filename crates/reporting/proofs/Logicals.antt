@@ -1,9 +1,9 @@
--- What stands behind an admitted sheet: the first bad line is reported, and a report does not depend on the logicals.
+-- A report does not depend on the logicals and w of an admitted sheet: what it shows, and the search for
+-- corrections, are made from n, d and the generators.
 use mathlib.Core.Bool.{Bool}
-use mathlib.Core.List.{List, _++_, flatMap}
-use mathlib.Core.Path.{_≡_, ap, ap₂, sym, _∙_}
-use Prim.Native.Nat.{_+_, _-_, _/_}
-use lib.ListN.{length}
+use mathlib.Core.List.{List, _++_}
+use mathlib.Core.Path.{_≡_, ap₂, sym, _∙_}
+use Prim.Native.Nat.{_-_, _/_}
 use Rattle.pauli.specs.declared.Letter.{Letter}
 use Rattle.pauli.specs.declared.Pauli.{Pauli}
 use Rattle.pauli.specs.Letters.{ofLetters}
@@ -11,36 +11,22 @@ use Rattle.pauli.specs.Lists.{firstOf}
 use Rattle.pauli.specs.Order.{stringsUpTo}
 use Rattle.pauli.specs.Syndrome.{syndrome}
 use Rattle.sheet.specs.declared.Code.{Code}
-use Rattle.sheet.specs.Record.{logicalCount, radius, claimAt}
+use Rattle.sheet.specs.Record.{pairCount, logicalCount, radius}
 use Rattle.sheet.specs.Text.{line}
 use Rattle.stabilizer.specs.Canonical.{canonicalText}
 use Rattle.admission.specs.Admission.{readSheet}
-use Rattle.admission.proofs.Admitted.{admitted-as}
 use Rattle.decoder.specs.Correction.{hasSyndrome, correction}
 use Rattle.decoder.specs.Syndrome.{sameBits}
-use Rattle.reporting.specs.Report.{correctionValue, correctionLine, codeText, reportOfSyndromes, reportOfCode}
-use Rattle.reporting.specs.Statements.{syndromeLineText, BadLinesAreReported, SameCode, LogicalsAreNotReported}
-use Rattle.reporting.proofs.Lists.{all-members, same-lines}
-use Rattle.reporting.proofs.Report.{report-of-lines, syndromes-are-reported}
-use Rattle.reporting.proofs.Steps.{before, lines-then, bad-line}
-
-pub bad-lines-are-reported : BadLinesAreReported
-unfolding reportOfCode reportOfSyndromes before
-bad-lines-are-reported s syndromes rest h counts bad some few =
-    let c = readSheet s .code in
-    let a = admitted-as s h in
-    let behind = flatMap syndromeLineText syndromes ++ rest in
-    report-of-lines s behind c (a .lines) few
-    ∙ ap (reportOfCode c behind) (a .faultless)
-    ∙ ap (reportOfSyndromes c)
-    (lines-then c syndromes (claimAt c + 1) rest (all-members _ syndromes counts)
-    ∙ ap (before syndromes) (bad-line c (claimAt c + 1 + length syndromes) rest some bad))
+use Rattle.reporting.specs.Report.{correctionValue, correctionLine, codeText}
+use Rattle.reporting.specs.Statements.{SameCode, LogicalsAreNotReported}
+use Rattle.reporting.proofs.Lists.{same-lines}
+use Rattle.reporting.proofs.Report.{syndromes-are-reported}
 
 -- What a report has of a code: its text and its corrections.
 module _ (c c′ : Code) (same : SameCode c c′) where
   same-code-text : codeText c ≡ codeText c′
-  unfolding codeText logicalCount radius canonicalText
-  same-code-text = rw (same .generated, same .qubits, same .rows, same .distance)
+  unfolding codeText logicalCount pairCount radius canonicalText
+  same-code-text = cc (same .generated, same .qubits, same .rows, same .distance)
 
   same-correction-line : (bits : List Bool) → correctionLine c bits ≡ correctionLine c′ bits
   unfolding correctionLine correction hasSyndrome radius
