@@ -1,11 +1,13 @@
 -- What each reader of a sheet's lines has read where it gives a value, and which numbers its refusals have. A line is known
 -- from its value (Line, Values); rows one below the other go by induction, a row and then the others.
-use mathlib.Core.Bool.{Bool, true, false, cond}
+use mathlib.Core.Bool.{Bool, true, false, cond, _||_}
 use mathlib.Core.List.{List, [], _∷_, map, flatMap, append-assoc}
 use mathlib.Core.Path.{_≡_, refl, ap₂, _∙_}
-use Prim.Native.Nat.{ℕ, zero, suc, _+_, _-_, _≤_}
+use Prim.Native.Nat.{ℕ, zero, suc, _+_, _≤_}
 use Prim.Native.String.{String}
 use native.Mathlib.Omega.{arith}
+use borrow.Author.Tests.{eqb-false, ltb-false}
+use lib.Dec.{eqb, ltb}
 use lib.ListN.{length}
 use Rattle.pauli.specs.declared.Pauli.{Pauli}
 use Rattle.pauli.specs.Letters.{letterText, rowText}
@@ -13,13 +15,13 @@ use Rattle.pauli.specs.Lists.{bytes, allOf, anyOf}
 use Rattle.pauli.specs.Product.{modulo4}
 use Rattle.sheet.specs.declared.Refusal.{Refusal}
 use Rattle.sheet.specs.Reader.{Reader, stop, done, _andThen_, begins, readLine, readNumber, readRow, readLetters}
-use Rattle.sheet.specs.Reader.{inRange, qubitLine, distanceLine, rowLine, generatorLines, allGeneratorLines}
-use Rattle.sheet.specs.Reader.{logicalLines, claimLine}
-use Rattle.sheet.specs.Record.{between, isRow, generatorsAt}
+use Rattle.sheet.specs.Reader.{inRange, qubitLine, distanceLine, rowLine, rowsUpTo, countedGenerators, generatorLines}
+use Rattle.sheet.specs.Reader.{countedLogicals, logicalLines, claimLine}
+use Rattle.sheet.specs.Record.{mostQubits, longestDistance, mostGenerators, between, isRow}
 use Rattle.sheet.specs.Statements.{Among}
 use Rattle.sheet.specs.Text.{line, decimal}
 use Rattle.sheet.specs.Writer.{rowLines}
-use Rattle.sheet.proofs.Limits.{all-first, between-bounds}
+use Rattle.sheet.proofs.Limits.{neither, all-first, between-bounds}
 use Rattle.sheet.proofs.Line.{line-outcome}
 use Rattle.sheet.proofs.Outcome.{Outcome, gets, stops, continue-outcome, cond-outcome, Took}
 use Rattle.sheet.proofs.Values.{Row, Claim, number-written, row-written, claim-written}
@@ -58,13 +60,13 @@ number-line-outcome key width low high form range s hf hr =
     continue-outcome line-read λ m s' h.
     in-range-outcome low high m range s' (λ b. record { lawful = b; bytes-read = h .bytes-read }) hr
 
-pub qubit-line-outcome : (s : List ℕ) → Outcome (NumberLine "n=" 2 24 s) OfForm (qubitLine s)
+pub qubit-line-outcome : (s : List ℕ) → Outcome (NumberLine "n=" 2 mostQubits s) OfForm (qubitLine s)
 unfolding qubitLine anyOf
-qubit-line-outcome s = number-line-outcome "n=" _ 2 24 (Refusal.Form 1) (Refusal.QubitCount 1) s refl refl
+qubit-line-outcome s = number-line-outcome "n=" _ 2 mostQubits (Refusal.Form 1) (Refusal.QubitCount 1) s refl refl
 
-pub distance-line-outcome : (s : List ℕ) → Outcome (NumberLine "d=" 1 7 s) OfForm (distanceLine s)
+pub distance-line-outcome : (s : List ℕ) → Outcome (NumberLine "d=" 1 longestDistance s) OfForm (distanceLine s)
 unfolding distanceLine anyOf
-distance-line-outcome s = number-line-outcome "d=" 1 1 7 (Refusal.Form 2) (Refusal.DistanceRange 2) s refl refl
+distance-line-outcome s = number-line-outcome "d=" 1 1 longestDistance (Refusal.Form 2) (Refusal.DistanceRange 2) s refl refl
 
 -- ---- rows
 
@@ -86,56 +88,61 @@ row-count h = omega arith
 abbrev pub RowLines : String → ℕ → ℕ → ℕ → List ℕ → List Pauli → List ℕ → Type 0
 RowLines key n low high = Took (rowLines key n) (ReadRows n low high)
 
-no-rows : (n low high : ℕ) → low ≤ 0 → ReadRows n low high []
+no-rows : (n high : ℕ) → ReadRows n 0 high []
 unfolding allOf
-no-rows n low high h = record { each = refl; phases = refl; least = h; most = omega arith }
+no-rows n high = record { each = refl; phases = refl; least = omega arith; most = omega arith }
 
-module _ (n : ℕ) {low low' high high' : ℕ} (hl : low ≤ suc low') (hh : suc high' ≤ high) where
-  one-more-row : (P : Pauli) (rows : List Pauli) → Row n P → ReadRows n low' high' rows → ReadRows n low high (P ∷ rows)
-  one-more-row P rows h hs =
-      record {
-        each = rw (all-first, h .row) (hs .each);
-        phases = ap₂ _∷_ (h .phase) (hs .phases);
-        least = omega arith;
-        most = omega arith;
-      }
+one-more-row : {n high : ℕ} {P : Pauli} {rows : List Pauli} → Row n P → ReadRows n 0 high rows
+    → ReadRows n 0 (suc high) (P ∷ rows)
+one-more-row h hs = record {
+  each = rw (all-first, h .row) (hs .each);
+  phases = ap₂ _∷_ (h .phase) (hs .phases);
+  least = omega arith;
+  most = omega arith;
+}
 
-  row-and-rows-outcome : (key : String) (at : ℕ) (more : Reader (List Pauli))
-      → ((s : List ℕ) → Outcome (RowLines key n low' high' s) OfForm (more s)) → (s : List ℕ)
-      → Outcome (RowLines key n low high s) OfForm ((rowLine key n at andThen λ P. more andThen λ Ps. done (P ∷ Ps)) s)
-  unfolding done rowLines flatMap
-  row-and-rows-outcome key at more hmore s =
-      continue-outcome (row-line-outcome key n at s) λ P s' h. continue-outcome (hmore s') λ rows rest hs. gets (record {
-        lawful = one-more-row P rows (h .lawful) (hs .lawful);
-        bytes-read = h .bytes-read ∙ rw (hs .bytes-read, append-assoc);
-      })
+-- Lines that begin with the key, no more than so many: a row, and then the others.
+rows-up-to-outcome : (most : ℕ) (key : String) (n at : ℕ) (s : List ℕ)
+    → Outcome (RowLines key n 0 most s) OfForm (rowsUpTo most key n at s)
+unfolding rowsUpTo rowLines flatMap done
+rows-up-to-outcome zero key n at s = gets (record { lawful = no-rows n 0; bytes-read = refl })
+rows-up-to-outcome (suc most) key n at s =
+    cond-outcome (begins (bytes key) s)
+    (λ e. continue-outcome (row-line-outcome key n at s) λ P s' h.
+    continue-outcome (rows-up-to-outcome most key n (at + 1) s') λ rows rest hs. gets (record {
+      lawful = one-more-row (h .lawful) (hs .lawful);
+      bytes-read = h .bytes-read ∙ rw (hs .bytes-read, append-assoc);
+    }))
+    (λ e. gets (record { lawful = no-rows n (suc most); bytes-read = refl }))
 
--- No more than `left` g lines, and one at least where a g line comes first.
-generator-lines-outcome : (left n at low : ℕ) (s : List ℕ) → low ≤ cond (begins (bytes "g=") s) 1 0
-    → Outcome (RowLines "g=" n low left s) OfForm (generatorLines left n at s)
-unfolding generatorLines rowLines flatMap
-generator-lines-outcome zero n at low s h =
-    cond-outcome (begins (bytes "g=") s) (λ e. stops (count-refusal at))
-    (λ e. gets (record { lawful = no-rows n low zero (rw e at h); bytes-read = refl }))
-generator-lines-outcome (suc left) n at low s h =
-    cond-outcome (begins (bytes "g=") s)
-    (λ e. row-and-rows-outcome n {low' = 0} (rw e at h) (omega arith) "g=" at (generatorLines left n (at + 1))
-    (λ s'. generator-lines-outcome left n (at + 1) 0 s' (omega arith)) s)
-    (λ e. gets (record { lawful = no-rows n low (suc left) (rw e at h); bytes-read = refl }))
+-- The same rows, where more is known of their count.
+counted : (key : String) {n low high : ℕ} {s : List ℕ} {rows : List Pauli} {rest : List ℕ}
+    → RowLines key n 0 high s rows rest → low ≤ length rows → RowLines key n low high s rows rest
+counted key h many = record {
+  lawful = record {
+    each = h .lawful .each;
+    phases = h .lawful .phases;
+    least = many;
+    most = h .lawful .most;
+  };
+  bytes-read = h .bytes-read;
+}
 
-pub all-generator-lines-outcome : (n : ℕ) (s : List ℕ) → Outcome (RowLines "g=" n 1 (n - 1) s) OfForm (allGeneratorLines n s)
-unfolding allGeneratorLines
-all-generator-lines-outcome n s =
-    cond-outcome (begins (bytes "g=") s) (λ e. generator-lines-outcome (n - 1) n generatorsAt 1 s (rw e (omega arith)))
-    (λ e. stops (count-refusal generatorsAt))
+pub generator-lines-outcome : (n at : ℕ) (s : List ℕ)
+    → Outcome (RowLines "g=" n 1 (mostGenerators n) s) OfForm (generatorLines n at s)
+unfolding generatorLines countedGenerators
+generator-lines-outcome n at s =
+    continue-outcome (rows-up-to-outcome (mostGenerators n) "g=" n at s) λ rows rest h.
+    cond-outcome (eqb (length rows) 0 || begins (bytes "g=") rest) (λ e. stops (count-refusal (at + length rows)))
+    (λ e. gets (counted "g=" h (omega (arith, eqb-false (length rows) 0 (neither _ _ e .0)))))
 
 pub logical-lines-outcome : (k : ℕ) (key : String) (n at : ℕ) (s : List ℕ)
     → Outcome (RowLines key n k k s) OfForm (logicalLines k key n at s)
-unfolding logicalLines rowLines flatMap done
-logical-lines-outcome zero key n at s = gets (record { lawful = no-rows n 0 0 (omega arith); bytes-read = refl })
-logical-lines-outcome (suc k) key n at s =
-    row-and-rows-outcome n {low' = k} (omega arith) (omega arith) key at (logicalLines k key n (at + 1))
-    (logical-lines-outcome k key n (at + 1)) s
+unfolding logicalLines countedLogicals
+logical-lines-outcome k key n at s =
+    continue-outcome (rows-up-to-outcome k key n at s) λ rows rest h.
+    cond-outcome (ltb (length rows) k) (λ e. stops (form-refusal (at + length rows)))
+    (λ e. gets (counted key h (ltb-false (length rows) k e)))
 
 -- ---- the claim
 

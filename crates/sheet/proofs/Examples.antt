@@ -20,8 +20,9 @@ use Rattle.sheet.specs.declared.Refusal.{Refusal}
 use Rattle.sheet.specs.declared.Written.{Written}
 use Rattle.sheet.specs.Edges.{sheetA}
 use Rattle.sheet.specs.Definitions.{definitions}
-use Rattle.sheet.specs.Reader.{Parsed, got, stop, readForm, linesReading, formReading}
-use Rattle.sheet.specs.Record.{codeOf, emptyCode, filled, between, withinLimits, logicalCount, radius, claimAt}
+use Rattle.sheet.specs.Reader.{Parsed, SheetRead, got, stop, readForm, linesReading, formReading}
+use Rattle.sheet.specs.Record.{generatorRoom, logicalRoom, longestInput, longestSheet, codeOf, emptyCode, filled}
+use Rattle.sheet.specs.Record.{between, withinLimits, logicalCount, radius, claimAt}
 use Rattle.sheet.specs.Refusals.{values}
 use Rattle.sheet.specs.Text.{decimal, lineFeed, untouched}
 use Rattle.sheet.specs.Statements.{Sized}
@@ -93,12 +94,12 @@ off-form-refused : (e : Entry) → List·Memᴰ e offForm → readForm (bytes (e
 unfolding offForm definitions
 off-form-refused = each (λ e. readForm (bytes (e .input))) (λ e. stop (e .refusal)) offForm refl
 
--- 1 comes first, and at 4,097 bytes
-too-long : readForm (replicate 4097 lineFeed) ≡ stop Refusal.TooLong
+-- 1 comes first, and at one byte more than an input may have
+too-long : readForm (replicate (longestInput + 1) lineFeed) ≡ stop Refusal.TooLong
 unfolding definitions
 too-long = refl
 
-not-too-long : readForm (replicate 4096 lineFeed) ≡ stop (Refusal.Form 1)
+not-too-long : readForm (replicate longestInput lineFeed) ≡ stop (Refusal.Form 1)
 unfolding definitions
 not-too-long = refl
 
@@ -108,8 +109,8 @@ feeds : List ℕ → ℕ
 feeds [] = 0
 feeds (c ∷ cs) = cond (eqb c lineFeed) 1 0 + feeds cs
 
-refusedAs : ℕ → ℕ → Parsed Code → Bool
-refusedAs number at (got c rest) = false
+refusedAs : ℕ → ℕ → Parsed SheetRead → Bool
+refusedAs number at (got q rest) = false
 refusedAs number at (stop refusal) = eqb (values refusal .number) number && eqb (values refusal .line) at
 
 -- 2 at the line that is not whole; 5 where the first g place does not begin `g=`, after 8 or 9 bytes.
@@ -139,7 +140,7 @@ codeA =
     (signedRow Plus (replicate 5 X) ∷ []) (signedRow Plus (replicate 5 Z) ∷ [])
     (ofLetters (I ∷ Y ∷ Y ∷ I ∷ X ∷ []))
 
-read-a : readForm (bytes sheetA) ≡ got codeA []
+read-a : readForm (bytes sheetA) ≡ got (record { code = codeA; claimAt = 9 }) []
 unfolding codeA definitions
 read-a = refl
 
@@ -153,11 +154,11 @@ code24 =
     codeOf 24 7 (signedRow Minus (replicate 24 Z) ∷ []) (replicate 23 (signedRow Plus (replicate 24 X)))
     (replicate 23 (signedRow Minus (replicate 24 Z))) (ofLetters (replicate 24 X))
 
-pub longest : length (sheetText code24) ≡ 1352
+pub longest : length (sheetText code24) ≡ longestSheet
 unfolding code24 definitions
 longest = refl
 
-pub longest-returns : readForm (sheetText code24) ≡ got code24 []
+pub longest-returns : readForm (sheetText code24) ≡ got (record { code = code24; claimAt = 50 }) []
 unfolding code24 definitions
 longest-returns = refl
 
@@ -231,7 +232,7 @@ outside =
     ∷ codeK 2 1 zz xx zi (signedRow Minus (Z ∷ I ∷ []))
     -- an unused row is not I: of x, of z, of g
     ∷ codeOf 2 1 (zz ∷ []) (xx ∷ xx ∷ []) (zi ∷ []) zi ∷ codeOf 2 1 (zz ∷ []) (xx ∷ []) (zi ∷ zi ∷ []) zi
-    ∷ record { n = 2; r = 1; d = 1; g = filled 32 (zz ∷ zz ∷ []); x = filled 24 (xx ∷ []); z = filled 24 (zi ∷ []); w = zi }
+    ∷ record { n = 2; r = 1; d = 1; g = filled generatorRoom (zz ∷ zz ∷ []); x = filled logicalRoom (xx ∷ []); z = filled logicalRoom (zi ∷ []); w = zi }
     ∷ emptyCode ∷ []
 
 limits : (allOf withinLimits inside ≡ true) × (anyOf withinLimits outside ≡ false)
@@ -254,8 +255,8 @@ writer-writes = refl
 -- ---- the readings
 
 readings :
-    (linesReading (bytes (sheetA ⧺ "s=0001\n")) ≡ record { answer = Lines.Read 70; next = 10; code = codeA })
+    (linesReading (bytes (sheetA ⧺ "s=0001\n")) ≡ record { answer = Lines.Read 70; «claim_at» = 9; code = codeA })
     × (formReading (bytes (sheetA ⧺ "s=0001\n"))
-    ≡ record { answer = Lines.Refused (Refusal.Form 10); next = 0; code = emptyCode })
+    ≡ record { answer = Lines.Refused (Refusal.Form 10); «claim_at» = 0; code = emptyCode })
 unfolding codeA definitions
 readings = (refl, refl)

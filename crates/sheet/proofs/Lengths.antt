@@ -19,7 +19,7 @@ use Rattle.pauli.specs.Letters.{letterText, rowText}
 use Rattle.pauli.specs.Lists.{bytes}
 use Rattle.pauli.proofs.Letters.{length-lettersOf}
 use Rattle.sheet.specs.declared.Code.{Code}
-use Rattle.sheet.specs.Record.{logicalCount, generators, logicalXs, logicalZs, withinLimits}
+use Rattle.sheet.specs.Record.{mostQubits, longestSheet, pairCount, logicalCount, generators, logicalXs, logicalZs, withinLimits}
 use Rattle.sheet.specs.Statements.{Sized}
 use Rattle.sheet.specs.Text.{line, digitsOf, decimal}
 use Rattle.sheet.specs.Writer.{rowLines, sheetText}
@@ -109,23 +109,23 @@ length-qubitLine n h =
 
 -- The n line has 4 bytes or 5, the d line 4, each of the rows n + 4, the w line n + 3.
 unfoldable pub sheetLength : (n r : ℕ) → ℕ
-sheetLength n r = cond (ltb n 10) 4 5 + 4 + (r + 2 * (n - r)) * (n + 4) + (n + 3)
+sheetLength n r = cond (ltb n 10) 4 5 + 4 + (r + 2 * pairCount n r) * (n + 4) + (n + 3)
 
 module _ (c : Code) (sized : Sized c) (within : Limits c) where
   pub length-generators : length (generators c) ≡ c .r
   unfolding generators
   length-generators = length-take-le (c .r) (c .g) (omega arith)
 
-  pub length-logicalXs : length (logicalXs c) ≡ c .n - c .r
-  unfolding logicalXs logicalCount
-  length-logicalXs = length-take-le (c .n - c .r) (c .x) (omega arith)
+  pub length-logicalXs : length (logicalXs c) ≡ logicalCount c
+  unfolding logicalXs logicalCount pairCount
+  length-logicalXs = length-take-le (logicalCount c) (c .x) (omega arith)
 
-  pub length-logicalZs : length (logicalZs c) ≡ c .n - c .r
-  unfolding logicalZs logicalCount
-  length-logicalZs = length-take-le (c .n - c .r) (c .z) (omega arith)
+  pub length-logicalZs : length (logicalZs c) ≡ logicalCount c
+  unfolding logicalZs logicalCount pairCount
+  length-logicalZs = length-take-le (logicalCount c) (c .z) (omega arith)
 
 pub length-sheetText : (c : Code) → Sized c → withinLimits c ≡ true → length (sheetText c) ≡ sheetLength (c .n) (c .r)
-unfolding sheetText bytes sheetLength
+unfolding sheetText bytes sheetLength logicalCount
 length-sheetText c sized h =
     let within = limits c h in
     let first = length-qubitLine (c .n) (omega arith) in
@@ -141,8 +141,8 @@ length-sheetText c sized h =
     )
     (omega (arith, length-line "n=" (decimal (c .n))))
 
-sheetLength-le : (n r : ℕ) → 1 ≤ r → r < n → n ≤ 24 → sheetLength n r ≤ 1352
-unfolding sheetLength
+sheetLength-le : (n r : ℕ) → 1 ≤ r → r < n → n ≤ mostQubits → sheetLength n r ≤ longestSheet
+unfolding sheetLength pairCount
 sheetLength-le n r some few most =
     let rows : (r + 2 * (n - r)) * (n + 4) ≤ 47 * 28 = mul-le-mul {n₂ = 47} {m₂ = 28} (omega arith) (omega arith) in
     omega (arith, digits (ltb n 10))
@@ -151,8 +151,8 @@ sheetLength-le n r some few most =
     digits true = lit≤ tt
     digits false = lit≤ tt
 
--- A sheet within limits has at most 1352 bytes.
-pub sheetText-le : (c : Code) → Sized c → withinLimits c ≡ true → length (sheetText c) ≤ 1352
+-- No sheet within limits is longer than the longest.
+pub sheetText-le : (c : Code) → Sized c → withinLimits c ≡ true → length (sheetText c) ≤ longestSheet
 sheetText-le c sized within =
     let l = limits c within in
     rw (length-sheetText c sized within) (sheetLength-le (c .n) (c .r) (omega arith) (omega arith) (omega arith))

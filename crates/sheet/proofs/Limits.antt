@@ -1,10 +1,10 @@
 -- What the limits of a record say: the test of each limit, taken from the one test that joins them, as a fact on the
 -- record's numbers and rows.
 use mathlib.Core.Path.{_≡_, refl, ap, sym, _∙_}
-use mathlib.Core.Bool.{Bool, true, false, _&&_, and-eq-true-iff, and-false, false≢true}
+use mathlib.Core.Bool.{Bool, true, false, _&&_, _||_, and-eq-true-iff, and-false, false≢true}
 use mathlib.Core.List.{List, _∷_}
 use mathlib.Core.Logic.{_⊎_, inl, inr}
-use Prim.Native.Nat.{ℕ, _-_, _^_, _≤_, _<_}
+use Prim.Native.Nat.{ℕ, _^_, _≤_, _<_}
 use native.Mathlib.Omega.{arith}
 use borrow.Author.Tests.{le-leb, lt-leb, leb-true, ltb-true}
 use lib.Dec.{leb, ltb}
@@ -13,12 +13,17 @@ use Rattle.pauli.specs.declared.Pauli.{Pauli}
 use Rattle.pauli.specs.Lists.{allOf}
 use Rattle.pauli.specs.Product.{identity, samePauli}
 use Rattle.sheet.specs.declared.Code.{Code}
-use Rattle.sheet.specs.Record.{logicalCount, between, onQubits, isRow, isClaim, areRows, withinLimits}
+use Rattle.sheet.specs.Record.{mostQubits, longestDistance, mostGenerators, logicalCount}
+use Rattle.sheet.specs.Record.{between, onQubits, isRow, isClaim, areRows, withinLimits}
 
 -- ---- tests
 
 pub both : (a b : Bool) → (a && b) ≡ true → (a ≡ true) × (b ≡ true)
 both a b = and-eq-true-iff a b .0
+
+pub neither : (a b : Bool) → (a || b) ≡ false → (a ≡ false) × (b ≡ false)
+neither true b h = absurd (false≢true (sym h))
+neither false b h = (refl, h)
 
 module _ {A : Type 0} (test : A → Bool) (x : A) (xs : List A) where
   pub all-first : allOf test (x ∷ xs) ≡ (test x && allOf test xs)
@@ -62,9 +67,9 @@ unfolding areRows
 row-array n m rows h = let b = both _ _ h in record { used = b .0; unused = b .1 }
 
 pub record Limits (c : Code) : Type 0 where
-  pub qubits : (2 ≤ c .n) × (c .n ≤ 24)
+  pub qubits : (2 ≤ c .n) × (c .n ≤ mostQubits)
   pub generatorCount : (1 ≤ c .r) × (c .r < c .n)
-  pub distance : (1 ≤ c .d) × (c .d ≤ 7)
+  pub distance : (1 ≤ c .d) × (c .d ≤ longestDistance)
   pub generatorRows : RowArray (c .n) (c .r) (c .g)
   pub xRows : RowArray (c .n) (logicalCount c) (c .x)
   pub zRows : RowArray (c .n) (logicalCount c) (c .z)
@@ -72,9 +77,9 @@ pub record Limits (c : Code) : Type 0 where
 
 -- The tests that the limits join.
 pub record Tests (c : Code) : Type 0 where
-  pub qubits : between 2 24 (c .n) ≡ true
-  pub generatorCount : between 1 (c .n - 1) (c .r) ≡ true
-  pub distance : between 1 7 (c .d) ≡ true
+  pub qubits : between 2 mostQubits (c .n) ≡ true
+  pub generatorCount : between 1 (mostGenerators (c .n)) (c .r) ≡ true
+  pub distance : between 1 longestDistance (c .d) ≡ true
   pub generatorRows : areRows (c .n) (c .r) (c .g) ≡ true
   pub xRows : areRows (c .n) (logicalCount c) (c .x) ≡ true
   pub zRows : areRows (c .n) (logicalCount c) (c .z) ≡ true
@@ -108,7 +113,8 @@ outside c e test = by-limits (withinLimits c) refl
     by-limits false h = refl
 
 -- Where all the other tests hold, that of the claim decides.
-pub claim-decides : (c : Code) → between 2 24 (c .n) ≡ true → between 1 (c .n - 1) (c .r) ≡ true → between 1 7 (c .d) ≡ true
+pub claim-decides : (c : Code) → between 2 mostQubits (c .n) ≡ true
+    → between 1 (mostGenerators (c .n)) (c .r) ≡ true → between 1 longestDistance (c .d) ≡ true
     → areRows (c .n) (c .r) (c .g) ≡ true → areRows (c .n) (logicalCount c) (c .x) ≡ true
     → areRows (c .n) (logicalCount c) (c .z) ≡ true → isClaim (c .n) (c .w) ≡ withinLimits c
 unfolding withinLimits
@@ -118,6 +124,7 @@ claim-decides c n r d g x z = ap (λ t. t && isClaim (c .n) (c .w)) (sym (all (a
     all {a} {b} p q = and-eq-true-iff a b .1 (p, q)
 
 pub limits : (c : Code) → withinLimits c ≡ true → Limits c
+unfolding mostGenerators
 limits c h =
     let t = tests c h in
     let q = between-bounds _ _ _ (t .qubits) in

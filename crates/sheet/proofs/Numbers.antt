@@ -11,7 +11,7 @@ use Rattle.pauli.specs.Lists.{anyOf}
 use Rattle.sheet.specs.declared.Code.{Code}
 use Rattle.sheet.specs.declared.Refusal.{Refusal}
 use Rattle.sheet.specs.declared.Written.{Written}
-use Rattle.sheet.specs.Reader.{Parsed, answered, linesReading, formReading}
+use Rattle.sheet.specs.Reader.{Parsed, SheetRead, answered, linesReading, formReading}
 use Rattle.sheet.specs.Record.{limitsFault}
 use Rattle.sheet.specs.Refusals.{linesRefusal, writtenRefusal, refuseIf, _then_}
 use Rattle.sheet.specs.Statements.{SheetRefusalNumbers}
@@ -68,7 +68,7 @@ module _ {Law : Refusal → Type 0} where
       guarded-lawful writtenRefusal Written.Refused (λ refusal. refl) buffer _
       (then-lawful h (room-lawful (length text) buffer short)) unrefused
 
-  answered-lawful : {Got : Code → List ℕ → Type 0} {p : Parsed Code} (s : List ℕ) → Outcome Got Law p
+  answered-lawful : {Got : SheetRead → List ℕ → Type 0} {p : Parsed SheetRead} (s : List ℕ) → Outcome Got Law p
       → IfRefused Law (linesRefusal (answered s p .answer))
   unfolding answered linesRefusal
   answered-lawful s (gets h) = unrefused

@@ -4,7 +4,7 @@
 use mathlib.Core.Path.{_≡_, refl, _∙_}
 use mathlib.Core.Bool.{true, false}
 use mathlib.Core.List.{List, [], _∷_, _++_, map, flatMap, append-assoc}
-use Prim.Native.Nat.{ℕ, zero, suc, _+_, _-_, _%_, _≤_, _<_}
+use Prim.Native.Nat.{ℕ, zero, suc, _+_, _*_, _%_, _≤_, _<_}
 use Prim.Native.String.{String}
 use native.Mathlib.Omega.{arith}
 use borrow.Author.Tests.{le-ltb, ne-eqb}
@@ -15,10 +15,12 @@ use Rattle.pauli.specs.Lists.{allOf, bytes}
 use Rattle.pauli.specs.Product.{modulo4}
 use Rattle.sheet.specs.declared.Code.{Code}
 use Rattle.sheet.specs.declared.Refusal.{Refusal}
-use Rattle.sheet.specs.Reader.{got, done, continue, begins, readNumber, readLetters, readRow, inRange, qubitDigits, qubitLine}
-use Rattle.sheet.specs.Reader.{distanceLine, rowLine, generatorLines, allGeneratorLines, logicalLines, claimLine}
-use Rattle.sheet.specs.Reader.{linesAfter, sheetLines, readLines}
-use Rattle.sheet.specs.Record.{codeOf, generators, logicalXs, logicalZs, logicalCount, isRow, isClaim}
+use Rattle.sheet.specs.Reader.{got, done, continue, begins, readNumber, readLetters, readRow, inRange, qubitDigits}
+use Rattle.sheet.specs.Reader.{qubitLine, distanceLine, rowLine, rowsUpTo, countedGenerators, generatorLines}
+use Rattle.sheet.specs.Reader.{countedLogicals, logicalLines, claimLine, linesAfter, sheetLines, readLines}
+use Rattle.sheet.specs.Record.{generatorRoom, logicalRoom, mostQubits, longestDistance, longestInput, mostGenerators}
+use Rattle.sheet.specs.Record.{pairCount, logicalCount, generatorsAt, logicalsAt, claimAt, firstGeneratorAt}
+use Rattle.sheet.specs.Record.{codeOf, generators, logicalXs, logicalZs, isRow, isClaim}
 use Rattle.sheet.specs.Statements.{Sized, phasesModulo4, ReadAfterWrite}
 use Rattle.sheet.specs.Text.{lineFeed, line, decimal}
 use Rattle.sheet.specs.Writer.{sheetText, rowLines}
@@ -43,22 +45,23 @@ in-range-returns : (low high m : ℕ) (refusal : Refusal) (s : List ℕ) → low
 unfolding inRange done
 in-range-returns low high m refusal s hl hh = rw (bounds-between low high m hl hh)
 
-qubit-line-returns : (n : ℕ) (rest : List ℕ) → 2 ≤ n → n ≤ 24 → qubitLine (line "n=" (decimal n) ++ rest) ≡ got n rest
+qubit-line-returns : (n : ℕ) (rest : List ℕ) → 2 ≤ n → n ≤ mostQubits
+    → qubitLine (line "n=" (decimal n) ++ rest) ≡ got n rest
 unfolding qubitLine continue
 qubit-line-returns n rest low high =
     let width = width-read n rest (omega arith) in
     let number = number-read n (omega arith) (omega arith) in
     rw (line-returns "n=" _ readNumber (Refusal.Form 1) (decimal n) rest n width number)
-    (in-range-returns 2 24 n _ rest low high)
+    (in-range-returns 2 mostQubits n _ rest low high)
 
-distance-line-returns : (d : ℕ) (rest : List ℕ) → 1 ≤ d → d ≤ 7
+distance-line-returns : (d : ℕ) (rest : List ℕ) → 1 ≤ d → d ≤ longestDistance
     → distanceLine (line "d=" (decimal d) ++ rest) ≡ got d rest
 unfolding distanceLine continue
 distance-line-returns d rest low high =
     let width = length-decimal-one d (omega arith) in
     let number = number-read d low (omega arith) in
     rw (line-returns "d=" 1 readNumber (Refusal.Form 2) (decimal d) rest d width number)
-    (in-range-returns 1 7 d _ rest low high)
+    (in-range-returns 1 longestDistance d _ rest low high)
 
 -- ---- rows
 
@@ -72,37 +75,51 @@ claim-line-returns : (n at : ℕ) (P : Pauli) (rest : List ℕ) → isClaim n P 
 unfolding claimLine
 claim-line-returns n at P rest h = line-returns "w=" n readLetters _ _ rest _ (length-letterText n P) (claim-read n P h)
 
-generators-return : (left n at : ℕ) (rows : List Pauli) (rest : List ℕ) → allOf (isRow n) rows ≡ true
-    → length rows ≤ left → begins (bytes "g=") rest ≡ false
-    → generatorLines left n at (rowLines "g=" n rows ++ rest) ≡ got (map modulo4 rows) rest
-unfolding generatorLines rowLines flatMap continue done
-generators-return zero n at [] rest all few end = rw end
-generators-return zero n at (P ∷ rows) rest all few end = absurd (omega arith)
-generators-return (suc left) n at [] rest all few end = rw end
-generators-return (suc left) n at (P ∷ rows) rest all few end =
+-- Rows are read back, where as many were written as are read, or what stands behind them does not begin with their key.
+rows-return : (most : ℕ) (key : String) (n at : ℕ) (rows : List Pauli) (rest : List ℕ) → allOf (isRow n) rows ≡ true
+    → length rows ≤ most → (length rows < most → begins (bytes key) rest ≡ false)
+    → rowsUpTo most key n at (rowLines key n rows ++ rest) ≡ got (map modulo4 rows) rest
+unfolding rowsUpTo rowLines flatMap continue done
+rows-return zero key n at [] rest all few end = refl
+rows-return zero key n at (P ∷ rows) rest all few end = absurd (omega arith)
+rows-return (suc most) key n at [] rest all few end = rw (end (omega arith))
+rows-return (suc most) key n at (P ∷ rows) rest all few end =
     let h = all-cons (isRow n) P rows all in
     rw (
       append-assoc,
-      line-begins "g=" (rowText n P) _,
-      row-line-returns "g=" n at P _ (h .0),
-      generators-return left n (at + 1) rows rest (h .1) (omega arith) end,
+      line-begins key (rowText n P) _,
+      row-line-returns key n at P _ (h .0),
+      rows-return most key n (at + 1) rows rest (h .1) (omega arith) (λ fewer. end (omega arith)),
     )
 
-logicals-return : (key : String) (n at : ℕ) (rows : List Pauli) (rest : List ℕ) → allOf (isRow n) rows ≡ true
-    → logicalLines (length rows) key n at (rowLines key n rows ++ rest) ≡ got (map modulo4 rows) rest
-unfolding logicalLines rowLines flatMap continue done
-logicals-return key n at [] rest all = refl
-logicals-return key n at (P ∷ rows) rest all =
-    let h = all-cons (isRow n) P rows all in
-    rw (append-assoc, row-line-returns key n at P _ (h .0), logicals-return key n (at + 1) rows rest (h .1))
+generators-return : (n at : ℕ) (rows : List Pauli) (rest : List ℕ) → allOf (isRow n) rows ≡ true → 1 ≤ length rows
+    → length rows ≤ mostGenerators n → begins (bytes "g=") rest ≡ false
+    → generatorLines n at (rowLines "g=" n rows ++ rest) ≡ got (map modulo4 rows) rest
+unfolding generatorLines countedGenerators continue
+generators-return n at rows rest all some few end =
+    rw (
+      rows-return (mostGenerators n) "g=" n at rows rest all few (λ fewer. end),
+      length-map rows modulo4,
+      ne-eqb (length rows) 0 (omega arith),
+      end,
+    )
 
--- Lines of generators begin `g=`, and lines of logicals do not.
-first-lines : (n : ℕ) (rows : List Pauli) (rest : List ℕ) → 1 ≤ length rows
-    → (begins (bytes "g=") (rowLines "g=" n rows ++ rest) ≡ true)
-    × (begins (bytes "g=") (rowLines "x=" n rows ++ rest) ≡ false)
+logicals-return : (k : ℕ) (key : String) (n at : ℕ) (rows : List Pauli) (rest : List ℕ) → allOf (isRow n) rows ≡ true
+    → length rows ≡ k → logicalLines k key n at (rowLines key n rows ++ rest) ≡ got (map modulo4 rows) rest
+unfolding logicalLines countedLogicals continue
+logicals-return k key n at rows rest all count =
+    rw (
+      rows-return k key n at rows rest all (omega arith) (λ fewer. absurd (omega arith)),
+      length-map rows modulo4,
+      le-ltb (length rows) k (omega arith),
+    )
+
+-- Lines of X logicals do not begin as lines of generators do.
+no-generator-line : (n : ℕ) (rows : List Pauli) (rest : List ℕ) → 1 ≤ length rows
+    → begins (bytes "g=") (rowLines "x=" n rows ++ rest) ≡ false
 unfolding rowLines flatMap line bytes begins
-first-lines n [] rest h = absurd (omega arith)
-first-lines n (P ∷ rows) rest h = (refl, refl)
+no-generator-line n [] rest h = absurd (omega arith)
+no-generator-line n (P ∷ rows) rest h = refl
 
 -- ---- the sheet
 
@@ -127,45 +144,44 @@ module _ (c : Code) (sized : Sized c) (within : Limits c) where
   record-returns =
       rw (
         rows-read,
-        filled-returns 32 (c .r) (c .g) (sized .roomG) (within .generatorRows .unused),
-        filled-returns 24 (logicalCount c) (c .x) (sized .roomX) (within .xRows .unused),
-        filled-returns 24 (logicalCount c) (c .z) (sized .roomZ) (within .zRows .unused),
+        filled-returns generatorRoom (c .r) (c .g) (sized .roomG) (within .generatorRows .unused),
+        filled-returns logicalRoom (logicalCount c) (c .x) (sized .roomX) (within .xRows .unused),
+        filled-returns logicalRoom (logicalCount c) (c .z) (sized .roomZ) (within .zRows .unused),
       )
 
-  lines-after-return : (rest : List ℕ)
-      → linesAfter (c .n) (c .d) (map modulo4 (generators c))
+  lines-after-return : (at : ℕ) (rest : List ℕ)
+      → linesAfter (c .n) (c .d) at (map modulo4 (generators c))
       (rowLines "x=" (c .n) (logicalXs c) ++ (rowLines "z=" (c .n) (logicalZs c)
       ++ (line "w=" (letterText (c .n) (c .w)) ++ rest)))
-      ≡ got (phasesModulo4 c) rest
-  unfolding linesAfter continue done logicalXs logicalZs
-  lines-after-return rest =
+      ≡ got (record { code = phasesModulo4 c; claimAt = at + 2 * logicalCount c }) rest
+  unfolding linesAfter continue done logicalXs logicalZs logicalCount
+  lines-after-return at rest =
       rw (
         rows-read,
-        ← length-logicalXs c sized within,
-        logicals-return "x=" (c .n) _ (logicalXs c) _ (within .xRows .used),
-        length-logicalXs c sized within,
-        ← length-logicalZs c sized within,
-        logicals-return "z=" (c .n) _ (logicalZs c) _ (within .zRows .used),
+        logicals-return (logicalCount c) "x=" (c .n) _ (logicalXs c) _ (within .xRows .used) (length-logicalXs c sized within),
+        logicals-return (logicalCount c) "z=" (c .n) _ (logicalZs c) _ (within .zRows .used) (length-logicalZs c sized within),
         claim-line-returns (c .n) _ (c .w) rest (within .claim),
         record-returns,
       )
 
-  sheet-lines-return : (rest : List ℕ) → sheetLines (sheetText c ++ rest) ≡ got (phasesModulo4 c) rest
-  unfolding sheetLines allGeneratorLines continue generators
+  sheet-lines-return : (rest : List ℕ)
+      → sheetLines (sheetText c ++ rest) ≡ got (record { code = phasesModulo4 c; claimAt = claimAt c }) rest
+  unfolding sheetLines continue generators mostGenerators logicalCount pairCount claimAt logicalsAt generatorsAt
   sheet-lines-return rest =
       let r = length-generators c sized within in
       let k = length-logicalXs c sized within in
+      let after-x = rowLines "z=" (c .n) (logicalZs c) ++ (line "w=" (letterText (c .n) (c .w)) ++ rest) in
       rw (
         sheet-then c rest,
         qubit-line-returns (c .n) _ (omega arith) (omega arith),
         distance-line-returns (c .d) _ (omega arith) (omega arith),
-        first-lines (c .n) (generators c) _ (omega arith) .0,
-        generators-return (c .n - 1) (c .n) _ (generators c) _ (within .generatorRows .used) (omega arith)
-            (first-lines (c .n) (logicalXs c) _ (omega arith) .1),
+        generators-return (c .n) firstGeneratorAt (generators c) _ (within .generatorRows .used) (omega arith) (omega arith)
+            (no-generator-line (c .n) (logicalXs c) after-x (omega arith)),
+        rows-read,
       )
-      (lines-after-return rest)
+      (lines-after-return (firstGeneratorAt + c .r) rest)
 
 pub read-after-write : ReadAfterWrite
 unfolding readLines
 read-after-write c rest sized within few =
-    rw (le-ltb 4096 (length (sheetText c ++ rest)) few) (sheet-lines-return c sized (limits c within) rest)
+    rw (le-ltb longestInput (length (sheetText c ++ rest)) few) (sheet-lines-return c sized (limits c within) rest)

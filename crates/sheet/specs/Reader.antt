@@ -1,7 +1,7 @@
 -- The sheet as a function from bytes to an answer.
--- 01: "After each line the rest of the sheet, from the byte after its line feed, goes to the reader of the next line. A line
--- that fails its form ends the reading there; so does input that stops before the line feed."
-use mathlib.Core.Bool.{Bool, true, false, cond, _&&_}
+-- RULES, "The sheet": the reader of each line gets what is behind the line feed of the line before. A line off its form ends the
+-- reading, and so does input that ends before a line feed.
+use mathlib.Core.Bool.{Bool, true, false, cond, _&&_, _||_}
 use mathlib.Core.List.{List, [], _∷_, foldl}
 use mathlib.Core.Option.{Option, none, some, Option·map, bind}
 use Prim.Native.Nat.{ℕ, zero, suc, _+_, _-_, _*_}
@@ -17,7 +17,8 @@ use Rattle.sheet.specs.declared.Refusal.{Refusal}
 use Rattle.sheet.specs.declared.Lines.{Lines}
 use Rattle.sheet.specs.declared.LinesReading.{LinesReading}
 use Rattle.sheet.specs.Text.{lineFeed}
-use Rattle.sheet.specs.Record.{between, codeOf, emptyCode, generatorsAt, claimAt}
+use Rattle.sheet.specs.Record.{between, codeOf, emptyCode, pairCount, mostGenerators, firstGeneratorAt}
+use Rattle.sheet.specs.Record.{mostQubits, longestDistance, longestInput}
 
 -- What a reader gives: a value and the rest of the bytes, or the refusal that ends the reading.
 pub data Parsed (A : Type 0) : Type 0 where
@@ -54,7 +55,7 @@ unfoldable pub gotOr : {A : Type 0} → Refusal → Option A → List ℕ → Pa
 gotOr refusal none rest = stop refusal
 gotOr refusal (some a) rest = got a rest
 
--- 01: "Lines `key=value`, each closed by a line feed (byte 10)". The bytes begin with the key, and behind m more there is a line feed.
+-- RULES, "The sheet": a line is a key, a value and a line feed. The bytes begin with the key, and behind m more is a line feed.
 unfoldable pub isLine : List ℕ → ℕ → List ℕ → Bool
 isLine key m s = begins key s && eqb (getD (drop (length key) s) m 0) lineFeed
 
@@ -95,74 +96,87 @@ inRange low high refusal m = cond (between low high m) (done m) (λ s. stop refu
 unfoldable pub qubitDigits : List ℕ → ℕ
 qubitDigits s = cond (eqb (getD s 3 0) lineFeed) 1 2
 
--- 01: "`n=` one or two digits, first not 0"; 2 at line 1, then 3 where n is not 2 to 24.
+-- RULES, "The sheet": the n line has one or two digits, the first not 0. 2 at line 1, then 3 where n is not 2 to 24.
 unfoldable pub qubitLine : Reader ℕ
-qubitLine s = (readLine "n=" (qubitDigits s) readNumber (Refusal.Form 1) andThen inRange 2 24 (Refusal.QubitCount 1)) s
+qubitLine s =
+    (readLine "n=" (qubitDigits s) readNumber (Refusal.Form 1) andThen inRange 2 mostQubits (Refusal.QubitCount 1)) s
 
--- 01: "`d=` one digit 1 to 9"; 2 at line 2, then 4 where d is not 1 to 7.
+-- RULES, "The sheet": the d line has one digit, not 0. 2 at line 2, then 4 where d is not 1 to 7.
 unfoldable pub distanceLine : Reader ℕ
-distanceLine = readLine "d=" 1 readNumber (Refusal.Form 2) andThen inRange 1 7 (Refusal.DistanceRange 2)
+distanceLine =
+    readLine "d=" 1 readNumber (Refusal.Form 2) andThen inRange 1 longestDistance (Refusal.DistanceRange 2)
 
--- 01: "a sign, then n letters"
+-- RULES, "The sheet": the line of a row has a sign and n letters.
 unfoldable pub rowLine : String → ℕ → ℕ → Reader Pauli
 rowLine key n at = readLine key (n + 1) readRow (Refusal.Form at)
 
--- The g lines from the line `at` on, of which `left` may still come.
--- 01: 5, before their form, at "`g=` again after n - 1 of them".
-unfoldable pub generatorLines : ℕ → ℕ → ℕ → Reader (List Pauli)
-generatorLines zero n at s = cond (begins (bytes "g=") s) (stop (Refusal.GeneratorCount at)) (got [] s)
-generatorLines (suc left) n at s =
-    cond (begins (bytes "g=") s)
-    ((rowLine "g=" n at andThen λ g. generatorLines left n (at + 1) andThen λ gs. done (g ∷ gs)) s)
+-- The lines of rows from the line `at` on, until one does not begin with the key or so many are read.
+unfoldable pub rowsUpTo : ℕ → String → ℕ → ℕ → Reader (List Pauli)
+rowsUpTo zero key n at s = got [] s
+rowsUpTo (suc most) key n at s =
+    cond (begins (bytes key) s)
+    ((rowLine key n at andThen λ P. rowsUpTo most key n (at + 1) andThen λ Ps. done (P ∷ Ps)) s)
     (got [] s)
 
--- 01: 5 where the "first place does not begin `g=`".
-unfoldable pub allGeneratorLines : ℕ → Reader (List Pauli)
-allGeneratorLines n s =
-    cond (begins (bytes "g=") s) (generatorLines (n - 1) n generatorsAt s) (stop (Refusal.GeneratorCount generatorsAt))
+-- RULES, "Refusals": 5 where there is no g line, or one more than are read; at the line where the g lines end.
+unfoldable pub countedGenerators : ℕ → List Pauli → Reader (List Pauli)
+countedGenerators at gs s =
+    cond (eqb (length gs) 0 || begins (bytes "g=") s) (stop (Refusal.GeneratorCount (at + length gs))) (got gs s)
 
--- The k lines of the X or of the Z logicals, from the line `at` on.
+unfoldable pub generatorLines : ℕ → ℕ → Reader (List Pauli)
+generatorLines n at = rowsUpTo (mostGenerators n) "g=" n at andThen countedGenerators at
+
+-- RULES, "The sheet": there are k lines of X logicals, and of Z logicals. 2 at the first line that is missing.
+unfoldable pub countedLogicals : ℕ → ℕ → List Pauli → Reader (List Pauli)
+countedLogicals k at ls s = cond (ltb (length ls) k) (stop (Refusal.Form (at + length ls))) (got ls s)
+
 unfoldable pub logicalLines : ℕ → String → ℕ → ℕ → Reader (List Pauli)
-logicalLines zero key n at = done []
-logicalLines (suc k) key n at =
-    rowLine key n at andThen λ l. logicalLines k key n (at + 1) andThen λ ls. done (l ∷ ls)
+logicalLines k key n at = rowsUpTo k key n at andThen countedLogicals k at
 
--- 01: "`w=`: n letters, no sign, a claimed lightest logical."
+-- RULES, "The sheet": the w line has n letters and no sign.
 unfoldable pub claimLine : ℕ → ℕ → Reader Pauli
 claimLine n at = readLine "w=" n readLetters (Refusal.Form at)
 
--- The lines behind the r generators: k lines `x=`, k lines `z=`, and w.
-unfoldable pub linesAfter : (n d : ℕ) → List Pauli → Reader Code
-linesAfter n d gs =
-    let r = length gs in
-    let k = n - r in
-    logicalLines k "x=" n (generatorsAt + r) andThen λ xs.
-    logicalLines k "z=" n (generatorsAt + r + k) andThen λ zs.
-    claimLine n (generatorsAt + r + 2 * k) andThen λ w.
-    done (codeOf n d gs xs zs w)
+-- What the lines of a sheet say: the record, and the line that w stands on.
+pub record SheetRead : Type 0 where
+  pub code : Code
+  pub claimAt : ℕ
+
+-- The lines behind the generators, from the line `at` on: k lines `x=`, k lines `z=`, and w.
+unfoldable pub linesAfter : (n d at : ℕ) → List Pauli → Reader SheetRead
+linesAfter n d at gs =
+    let k = pairCount n (length gs) in
+    logicalLines k "x=" n at andThen λ xs.
+    logicalLines k "z=" n (at + k) andThen λ zs.
+    claimLine n (at + 2 * k) andThen λ w.
+    done (record { code = codeOf n d gs xs zs w; claimAt = at + 2 * k })
 
 -- The lines of a sheet, in order. What stands behind w is the rest.
-unfoldable pub sheetLines : Reader Code
-sheetLines = qubitLine andThen λ n. distanceLine andThen λ d. allGeneratorLines n andThen λ gs. linesAfter n d gs
+unfoldable pub sheetLines : Reader SheetRead
+sheetLines =
+    qubitLine andThen λ n.
+    distanceLine andThen λ d.
+    generatorLines n firstGeneratorAt andThen λ gs.
+    linesAfter n d (firstGeneratorAt + length gs) gs
 
--- 01: "Check 1 is first": 1 where the whole input has more than 4,096 bytes.
-unfoldable pub readLines : Reader Code
-readLines s = cond (ltb 4096 (length s)) (stop Refusal.TooLong) (sheetLines s)
+-- RULES, "Refusals": 1 comes first, where the whole input is longer than it may be.
+unfoldable pub readLines : Reader SheetRead
+readLines s = cond (ltb longestInput (length s)) (stop Refusal.TooLong) (sheetLines s)
 
--- 01: "for a sheet read by itself, bytes behind w": 2 at the line after w.
-unfoldable pub nothingBehind : Code → Reader Code
-nothingBehind c [] = got c []
-nothingBehind c (b ∷ s) = stop (Refusal.Form (claimAt c + 1))
+-- RULES, "Refusals": in a sheet read by itself, bytes behind w are 2 at the line after w.
+unfoldable pub nothingBehind : SheetRead → Reader SheetRead
+nothingBehind q [] = got q []
+nothingBehind q (b ∷ s) = stop (Refusal.Form (q .claimAt + 1))
 
 -- The form of a sheet read by itself.
-unfoldable pub readForm : Reader Code
+unfoldable pub readForm : Reader SheetRead
 readForm = readLines andThen nothingBehind
 
--- A reading as a call answers it: how many bytes were read, the number of the line behind w and the record, or the refusal and the empty
--- record.
-unfoldable pub answered : List ℕ → Parsed Code → LinesReading
-answered s (got c rest) = record { answer = Lines.Read (length s - length rest); next = claimAt c + 1; code = c }
-answered s (stop refusal) = record { answer = Lines.Refused refusal; next = 0; code = emptyCode }
+-- A reading as a call answers it: how many bytes were read, the line of w and the record; or the refusal and the empty record.
+unfoldable pub answered : List ℕ → Parsed SheetRead → LinesReading
+answered s (got q rest) =
+    record { answer = Lines.Read (length s - length rest); «claim_at» = q .claimAt; code = q .code }
+answered s (stop refusal) = record { answer = Lines.Refused refusal; «claim_at» = 0; code = emptyCode }
 
 -- The call on the lines of a sheet, with anything behind them, as a report reads it; and on a sheet by itself.
 unfoldable pub linesReading : List ℕ → LinesReading
@@ -171,7 +185,7 @@ linesReading s = answered s (readLines s)
 unfoldable pub formReading : List ℕ → LinesReading
 formReading s = answered s (readForm s)
 
--- 01: "Reports read a sheet and then any number of `s=` lines." The part of the bytes that is behind the lines; none where they were refused.
+-- RULES, "The report": what a report goes on with, the bytes behind the lines; none where these were refused.
 unfoldable pub behind : List ℕ → Lines → List ℕ
 behind s (Lines.Read used) = drop used s
 behind s (Lines.Refused refusal) = []

@@ -1,4 +1,4 @@
--- The code record: its rows, its lines, its limits.
+-- The code record: its sizes, its rows, its lines, its limits.
 use mathlib.Core.Bool.{Bool, not, _&&_}
 use mathlib.Core.List.{List, _++_}
 use mathlib.Core.Option.{Option}
@@ -18,11 +18,37 @@ use Rattle.sheet.specs.declared.Family.the-variants.{Generator, LogicalX
 use Rattle.sheet.specs.declared.Refusal.{Refusal}
 use Rattle.sheet.specs.Refusals.{refuseIf}
 
--- 01: "k = n - r, r being the number of g lines."
-unfoldable pub logicalCount : Code → ℕ
-logicalCount c = c .n - c .r
+-- RULES, "The record": the sizes. A record has room for so many generators, and for so many logicals of each kind; a sheet has so
+-- many qubits at most, a distance up to so much, and so many bytes; an input, with what stands behind the sheet, so many bytes.
+abbrev pub generatorRoom : ℕ
+generatorRoom = 32
 
--- 01: "t the whole part of (d - 1) / 2."
+abbrev pub logicalRoom : ℕ
+logicalRoom = 24
+
+abbrev pub mostQubits : ℕ
+mostQubits = 24
+
+abbrev pub longestDistance : ℕ
+longestDistance = 7
+
+abbrev pub longestInput : ℕ
+longestInput = 4096
+
+abbrev pub longestSheet : ℕ
+longestSheet = 1352
+
+-- RULES, "The sheet": a code of n qubits and r generators has n - r pairs of logicals, and at most n - 1 generators are read.
+unfoldable pub pairCount : ℕ → ℕ → ℕ
+pairCount n r = n - r
+
+unfoldable pub mostGenerators : ℕ → ℕ
+mostGenerators n = n - 1
+
+unfoldable pub logicalCount : Code → ℕ
+logicalCount c = pairCount (c .n) (c .r)
+
+-- RULES, "Decoding": t is the whole part of (d - 1) / 2.
 unfoldable pub radius : Code → ℕ
 radius c = (c .d - 1) / 2
 
@@ -35,17 +61,16 @@ logicalXs c = take (logicalCount c) (c .x)
 unfoldable pub logicalZs : Code → List Pauli
 logicalZs c = take (logicalCount c) (c .z)
 
--- 01: "generator, X logical or Z logical". The rows of a family: its array in the record, how many places that has, the key of its
--- lines, and the byte that the key begins with.
+-- RULES, "The record": a family of rows has its array, its places there, the key of its lines, and the byte that begins the key.
 abbrev pub rowsOf : Family → Code → List Pauli
 rowsOf Generator c = c .g
 rowsOf LogicalX c = c .x
 rowsOf LogicalZ c = c .z
 
 abbrev pub roomOf : Family → ℕ
-roomOf Generator = 32
-roomOf LogicalX = 24
-roomOf LogicalZ = 24
+roomOf Generator = generatorRoom
+roomOf LogicalX = logicalRoom
+roomOf LogicalZ = logicalRoom
 
 abbrev pub rowKey : Family → String
 rowKey Generator = "g="
@@ -57,12 +82,16 @@ keyByte Generator = code "g"
 keyByte LogicalX = code "x"
 keyByte LogicalZ = code "z"
 
--- The lines of a sheet count from 1: n, d, the r generators, the k X logicals, the k Z logicals, w.
-unfoldable pub generatorsAt : ℕ
-generatorsAt = 3
+-- RULES, "The sheet": lines count from 1, and are n, d, the generators, the X logicals, the Z logicals, w. So these lines of a
+-- record's written sheet are that of its first generator, of its first X logical, and of w.
+abbrev pub firstGeneratorAt : ℕ
+firstGeneratorAt = 3
+
+unfoldable pub generatorsAt : Code → ℕ
+generatorsAt c = firstGeneratorAt
 
 unfoldable pub logicalsAt : Code → ℕ
-logicalsAt c = generatorsAt + c .r
+logicalsAt c = generatorsAt c + c .r
 
 unfoldable pub claimAt : Code → ℕ
 claimAt c = logicalsAt c + 2 * logicalCount c
@@ -71,42 +100,55 @@ claimAt c = logicalsAt c + 2 * logicalCount c
 unfoldable pub filled : ℕ → List Pauli → List Pauli
 filled m rows = rows ++ replicate (m - length rows) identity
 
--- The record of a sheet's values. It has room for 32 generators and 24 logicals of each kind.
+-- The record of a sheet's values.
 unfoldable pub codeOf : (n d : ℕ) → (gs xs zs : List Pauli) → Pauli → Code
-codeOf n d gs xs zs w =
-    record { n = n; r = length gs; d = d; g = filled 32 gs; x = filled 24 xs; z = filled 24 zs; w = w }
+codeOf n d gs xs zs w = record {
+  n = n;
+  r = length gs;
+  d = d;
+  g = filled generatorRoom gs;
+  x = filled logicalRoom xs;
+  z = filled logicalRoom zs;
+  w = w;
+}
 
--- 01: "Beside a refused reading stands the record with all numbers 0 and all rows +I."
+-- RULES, "The record": the empty record, which stands beside a refused reading, has all numbers 0 and all rows +I.
 unfoldable pub emptyCode : Code
-emptyCode =
-    record { n = 0; r = 0; d = 0; g = replicate 32 identity; x = replicate 24 identity; z = replicate 24 identity; w = identity }
+emptyCode = record {
+  n = 0;
+  r = 0;
+  d = 0;
+  g = replicate generatorRoom identity;
+  x = replicate logicalRoom identity;
+  z = replicate logicalRoom identity;
+  w = identity;
+}
 
 unfoldable pub between : ℕ → ℕ → ℕ → Bool
 between low high m = leb low m && leb m high
 
--- 01: "no mask bit above qubit n"
+-- RULES, "The record": no mask has a bit above qubit n.
 unfoldable pub onQubits : ℕ → Pauli → Bool
 onQubits n P = ltb (P .a) (2 ^ n) && ltb (P .b) (2 ^ n)
 
--- 01: "no mask bit above qubit n, each row's phase that of a signed row"
+-- A row of n qubits has besides the phase of a signed row, and w that of a row with sign +.
 unfoldable pub isRow : ℕ → Pauli → Bool
 isRow n P = onQubits n P && isSignedRow P
 
--- 01: "no mask bit above qubit n", "w with sign +"
 unfoldable pub isClaim : ℕ → Pauli → Bool
 isClaim n P = onQubits n P && hasSign Plus P
 
--- The first m rows are rows of n qubits. 01: "unused rows +I".
+-- The first m rows of an array are rows of n qubits, and those behind them, which are unused, are +I.
 unfoldable pub areRows : ℕ → ℕ → List Pauli → Bool
 areRows n m rows = allOf (isRow n) (take m rows) && allOf (samePauli identity) (drop m rows)
 
--- 01: "Its limits: n 2 to 24, r 1 to n - 1, d 1 to 7, no mask bit above qubit n, each row's phase that of a signed row, w with
--- sign +, unused rows +I."
+-- RULES, "The record": its limits. The numbers n, r and d are within their ranges, the rows are rows of n qubits, w has sign +.
 unfoldable pub withinLimits : Code → Bool
 withinLimits c =
-    between 2 24 (c .n) && between 1 (c .n - 1) (c .r) && between 1 7 (c .d) && areRows (c .n) (c .r) (c .g)
-    && areRows (c .n) (logicalCount c) (c .x) && areRows (c .n) (logicalCount c) (c .z) && isClaim (c .n) (c .w)
+    between 2 mostQubits (c .n) && between 1 (mostGenerators (c .n)) (c .r) && between 1 longestDistance (c .d)
+    && areRows (c .n) (c .r) (c .g) && areRows (c .n) (logicalCount c) (c .x) && areRows (c .n) (logicalCount c) (c .z)
+    && isClaim (c .n) (c .w)
 
--- 15, where a record is outside its limits.
+-- RULES, "Refusals": 15, where a record is outside its limits.
 unfoldable pub limitsFault : Code → Option Refusal
 limitsFault c = refuseIf (not (withinLimits c)) Refusal.RecordLimits

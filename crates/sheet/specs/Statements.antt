@@ -10,54 +10,67 @@ use Rattle.pauli.specs.Lists.{anyOf}
 use Rattle.pauli.specs.Product.{modulo4}
 use Rattle.sheet.specs.declared.Code.{Code}
 use Rattle.sheet.specs.declared.Refusal.{Refusal}
-use Rattle.sheet.specs.Reader.{got, readForm, readLines, linesReading, formReading, behind}
-use Rattle.sheet.specs.Record.{withinLimits}
+use Rattle.sheet.specs.Reader.{SheetRead, got, readForm, readLines, linesReading, formReading, behind}
+use Rattle.sheet.specs.Record.{withinLimits, claimAt, generatorRoom, logicalRoom, mostQubits, longestInput, longestSheet}
 use Rattle.sheet.specs.Refusals.{values, linesRefusal, writtenRefusal}
 use Rattle.sheet.specs.Text.{After}
 use Rattle.sheet.specs.Writer.{sheetText, writeSheet}
 
 -- A record as a machine holds it: each array has its room.
 pub record Sized (c : Code) : Type 0 where
-  pub roomG : length (c .g) ≡ 32
-  pub roomX : length (c .x) ≡ 24
-  pub roomZ : length (c .z) ≡ 24
+  pub roomG : length (c .g) ≡ generatorRoom
+  pub roomX : length (c .x) ≡ logicalRoom
+  pub roomZ : length (c .z) ≡ logicalRoom
 
--- A record with its phases brought to 0 to 3. 01: "A phase is read modulo 4."
+-- RULES, "Paulis": a phase counts modulo 4. A record with its phases brought to 0 to 3.
 unfoldable pub phasesModulo4 : Code → Code
-phasesModulo4 c =
-    record { n = c .n; r = c .r; d = c .d; g = map modulo4 (c .g); x = map modulo4 (c .x); z = map modulo4 (c .z); w = modulo4 (c .w) }
+phasesModulo4 c = record {
+  n = c .n;
+  r = c .r;
+  d = c .d;
+  g = map modulo4 (c .g);
+  x = map modulo4 (c .x);
+  z = map modulo4 (c .z);
+  w = modulo4 (c .w);
+}
 
--- Reading what was written of a record within limits gives that record, and what stood behind it.
+-- RULES, "Guarantees": reading what was written of a record within limits gives that record, the line of w in its sheet, and what
+-- stood behind the sheet.
 abbrev pub ReadAfterWrite : Type 0
 ReadAfterWrite =
-    (c : Code) (rest : List ℕ) → Sized c → withinLimits c ≡ true → length (sheetText c ++ rest) ≤ 4096
-    → readLines (sheetText c ++ rest) ≡ got (phasesModulo4 c) rest
+    (c : Code) (rest : List ℕ) → Sized c → withinLimits c ≡ true → length (sheetText c ++ rest) ≤ longestInput
+    → readLines (sheetText c ++ rest) ≡ got (record { code = phasesModulo4 c; claimAt = claimAt c }) rest
 
--- Writing what was read gives the bytes that were read.
+-- RULES, "Guarantees": writing what was read gives the bytes that were read.
 abbrev pub WriteAfterRead : Type 0
-WriteAfterRead = (s : List ℕ) (c : Code) (rest : List ℕ) → readLines s ≡ got c rest → sheetText c ++ rest ≡ s
+WriteAfterRead =
+    (s : List ℕ) (q : SheetRead) (rest : List ℕ) → readLines s ≡ got q rest → sheetText (q .code) ++ rest ≡ s
 
 -- The part behind the lines is what the definition leaves to be read on.
 abbrev pub RestIsBehind : Type 0
-RestIsBehind = (s : List ℕ) (c : Code) (rest : List ℕ) → readLines s ≡ got c rest → behind s (linesReading s .answer) ≡ rest
+RestIsBehind =
+    (s : List ℕ) (q : SheetRead) (rest : List ℕ) → readLines s ≡ got q rest → behind s (linesReading s .answer) ≡ rest
 
--- What is read is a record within limits, as a machine holds it, with phases 0 to 3.
-pub record ReadIsLawful (c : Code) : Type 0 where
-  pub sized : Sized c
-  pub limits : withinLimits c ≡ true
-  pub phases : phasesModulo4 c ≡ c
+-- What is read is a record within limits, as a machine holds it, with phases 0 to 3; and w stands where its written sheet has it.
+pub record ReadIsLawful (q : SheetRead) : Type 0 where
+  pub sized : Sized (q .code)
+  pub limits : withinLimits (q .code) ≡ true
+  pub phases : phasesModulo4 (q .code) ≡ q .code
+  pub claim : q .claimAt ≡ claimAt (q .code)
 
 abbrev pub ReadsAreLawful : Type 0
-ReadsAreLawful = (s : List ℕ) (c : Code) (rest : List ℕ) → readLines s ≡ got c rest → ReadIsLawful c
+ReadsAreLawful = (s : List ℕ) (q : SheetRead) (rest : List ℕ) → readLines s ≡ got q rest → ReadIsLawful q
 
--- 01: "The longest sheet has n = 24, r = 1, and 1,352 bytes."
+-- RULES, "The sheet": how long a sheet is at most; one of 24 qubits and one generator is so long.
 pub record LongestSheet : Type 0 where
-  pub most : (s : List ℕ) (c : Code) → readForm s ≡ got c [] → length s ≤ 1352
-  pub reached : (s : List ℕ) × (c : Code) × (readForm s ≡ got c []) × (c .n ≡ 24) × (c .r ≡ 1) × (length s ≡ 1352)
+  pub most : (s : List ℕ) (q : SheetRead) → readForm s ≡ got q [] → length s ≤ longestSheet
+  pub reached :
+      (s : List ℕ) × (q : SheetRead) × (readForm s ≡ got q []) × (q .code .n ≡ mostQubits) × (q .code .r ≡ 1)
+      × (length s ≡ longestSheet)
 
 -- ---- what a refusal leaves
 
--- 01: "Every refusal leaves them untouched": where the answer of a call carries a refusal, the buffer is what it was.
+-- RULES, "Calls and buffers": where the answer of a call carries a refusal, the buffer is what it was.
 pub record RefusalLeaves {A : Type 0} (refusalOf : A → Option Refusal) (buffer : List ℕ) (after : After A) : Type 0 where
   pub unchanged : (refusal : Refusal) → refusalOf (after .answer) ≡ some refusal → after .buffer ≡ buffer
 
@@ -66,7 +79,7 @@ WriterRefusalsLeave = (c : Code) (buffer : List ℕ) → RefusalLeaves writtenRe
 
 -- ---- the numbers
 
--- The refusal has one of these numbers. Demand 1: "Refused, by document 01's numbers and nothing beyond them".
+-- RULES, "Guarantees": a refusal has one of the numbers of its call, and no other.
 abbrev pub Among : List ℕ → Refusal → Type 0
 Among numbers refusal = anyOf (eqb (values refusal .number)) numbers ≡ true
 

@@ -6,8 +6,41 @@ ghost use Prim.Native.Nat.{_≤_};
 ghost use lib.ListN.{getD};
 ghost use Rattle.pauli.specs.Product.{identity, samePauli};
 ghost use Rattle.sheet.specs.Refusals.{values};
+ghost use Rattle.sheet.specs.Record.{mostQubits, pairCount, mostGenerators, generatorsAt};
 ghost use Rattle.sheet.specs.Record.{rowsOf, roomOf, keyByte, emptyCode};
 ghost use Rattle.sheet.specs.Record.{between, onQubits, isRow, isClaim, areRows, withinLimits};
+
+// The room of a record's arrays: for the generators, and for the logicals of each kind.
+pub const GENERATOR_ROOM: usize = 32;
+
+pub const LOGICAL_ROOM: usize = 24;
+
+// The most qubits and the longest distance that a sheet may have.
+pub const MOST_QUBITS: usize = 24;
+
+pub const MOST_DISTANCE: usize = 7;
+
+// The most bytes that an input has, and a sheet.
+pub const LONGEST_INPUT: usize = 4096;
+
+pub const LONGEST_SHEET: usize = 1352;
+
+// The line of the first generator.
+pub const FIRST_GENERATOR_AT: usize = 3;
+
+// How many pairs of logicals a code of n qubits and r generators has.
+pub fn pair_count(n: usize, r: usize) -> usize
+    ensures { λ k. ⌜ k ≡ pairCount n r ⌝ }
+{
+    if r <= n { n - r } else { 0 }
+}
+
+// The most generators that are read of a code of n qubits.
+pub fn most_generators(n: usize) -> usize
+    ensures { λ r. ⌜ r ≡ mostGenerators n ⌝ }
+{
+    if n > 0 { n - 1 } else { 0 }
+}
 
 // The code that a sheet describes: n qubits, r generators, claimed distance d. The first r rows of g are the generators,
 // the first n - r of x and of z the logical operators, and w is the claimed minimum-weight logical. Unused rows are +I.
@@ -15,9 +48,9 @@ pub struct Code {
     pub n: usize,
     pub r: usize,
     pub d: usize,
-    pub g: [Pauli; 32],
-    pub x: [Pauli; 24],
-    pub z: [Pauli; 24],
+    pub g: [Pauli; GENERATOR_ROOM],
+    pub x: [Pauli; LOGICAL_ROOM],
+    pub z: [Pauli; LOGICAL_ROOM],
     pub w: Pauli,
 }
 
@@ -31,9 +64,9 @@ impl Code {
             n: 0,
             r: 0,
             d: 0,
-            g: [one; 32],
-            x: [one; 24],
-            z: [one; 24],
+            g: [one; GENERATOR_ROOM],
+            x: [one; LOGICAL_ROOM],
+            z: [one; LOGICAL_ROOM],
             w: one,
         }
     }
@@ -44,22 +77,29 @@ impl Code {
     {
         match family {
             Family::Generator => {
-                if place < 32 {
+                if place < GENERATOR_ROOM {
                     return self.g[place];
                 }
             }
             Family::LogicalX => {
-                if place < 24 {
+                if place < LOGICAL_ROOM {
                     return self.x[place];
                 }
             }
             Family::LogicalZ => {
-                if place < 24 {
+                if place < LOGICAL_ROOM {
                     return self.z[place];
                 }
             }
         }
         Pauli::identity()
+    }
+
+    // The line of its first generator in its written sheet.
+    pub fn generators_at(self) -> usize
+        ensures { λ r. ⌜ r ≡ generatorsAt self ⌝ }
+    {
+        FIRST_GENERATOR_AT
     }
 
     // Whether the record is within its limits.
@@ -68,19 +108,19 @@ impl Code {
     {
         let n = self.n;
         let r = self.r;
-        if !between(2, 24, n) {
+        if !between(2, MOST_QUBITS, n) {
             return false;
         }
-        if !between(1, n - 1, r) {
+        if !between(1, most_generators(n), r) {
             return false;
         }
-        if !between(1, 7, self.d) {
+        if !between(1, MOST_DISTANCE, self.d) {
             return false;
         }
         if !self.are_rows(Family::Generator, r) {
             return false;
         }
-        let k = n - r;
+        let k = pair_count(n, r);
         if !self.are_rows(Family::LogicalX, k) {
             return false;
         }
@@ -92,7 +132,7 @@ impl Code {
 
     // Whether the first `count` rows of a family are rows of n qubits, and the others +I.
     fn are_rows(self, family: Family, count: usize) -> bool
-        requires { ⌜ self .n ≤ 24 ⌝ }
+        requires { ⌜ self .n ≤ mostQubits ⌝ }
         ensures { λ r. ⌜ r ≡ areRows (self .n) count (rowsOf family self) ⌝ }
     {
         let n = self.n;
@@ -121,7 +161,7 @@ fn between(low: usize, high: usize, m: usize) -> bool
 
 // Whether a Pauli has no mask bit above qubit n.
 fn on_qubits(p: Pauli, n: usize) -> bool
-    requires { ⌜ n ≤ 24 ⌝ }
+    requires { ⌜ n ≤ mostQubits ⌝ }
     ensures { λ r. ⌜ r ≡ onQubits n p ⌝ }
 {
     let end = 1u32 << n;
@@ -130,7 +170,7 @@ fn on_qubits(p: Pauli, n: usize) -> bool
 
 // Whether it is a signed row of n qubits.
 fn is_row(p: Pauli, n: usize) -> bool
-    requires { ⌜ n ≤ 24 ⌝ }
+    requires { ⌜ n ≤ mostQubits ⌝ }
     ensures { λ r. ⌜ r ≡ isRow n p ⌝ }
 {
     on_qubits(p, n) && p.is_signed_row()
@@ -138,7 +178,7 @@ fn is_row(p: Pauli, n: usize) -> bool
 
 // Whether it is a row of n qubits with sign +, as w is.
 fn is_claim(p: Pauli, n: usize) -> bool
-    requires { ⌜ n ≤ 24 ⌝ }
+    requires { ⌜ n ≤ mostQubits ⌝ }
     ensures { λ r. ⌜ r ≡ isClaim n p ⌝ }
 {
     on_qubits(p, n) && p.has_sign(Sign::Plus)
@@ -175,9 +215,9 @@ impl Family {
         ensures { λ r. ⌜ r ≡ roomOf self ⌝ }
     {
         match self {
-            Family::Generator => 32,
-            Family::LogicalX => 24,
-            Family::LogicalZ => 24,
+            Family::Generator => GENERATOR_ROOM,
+            Family::LogicalX => LOGICAL_ROOM,
+            Family::LogicalZ => LOGICAL_ROOM,
         }
     }
 }
@@ -286,11 +326,11 @@ pub enum Lines {
     Refused(Refusal),
 }
 
-// An enum holds no array, so the record stands beside the answer: all numbers 0 and all rows +I where it is a refusal. `next` is the number of
-// the line behind w, 0 where it is a refusal.
+// An enum holds no array, so the record stands beside the answer: all numbers 0 and all rows +I where it is a refusal.
+// `claim_at` is the line that w stands on, 0 where it is a refusal.
 pub struct LinesReading {
     pub answer: Lines,
-    pub next: usize,
+    pub claim_at: usize,
     pub code: Code,
 }
 

@@ -1,10 +1,11 @@
--- Each limit is tried in turn; the first that is broken decides. Behind each that holds, `code..` is the record and `held..` what the test says.
+-- Each limit is tried in turn; the first that is broken decides. Behind each that holds, `code..` is the record and `held..` what
+-- the test says; `told..` is what a test says of a limit that is a count of its own.
 use mathlib.Core.Bool.{true}
-use mathlib.Core.Path.{_≡_, _∙_}
-use Prim.Native.Nat.{_-_, _≤_}
+use mathlib.Core.Path.{_≡_, ap, _∙_}
+use Prim.Native.Nat.{_≤_}
 use native.Mathlib.Omega.{arith}
 use Rattle.sheet.specs.declared.Code.{Code}
-use Rattle.sheet.specs.Record.{between, areRows, logicalCount}
+use Rattle.sheet.specs.Record.{mostQubits, longestDistance, mostGenerators, logicalCount, between, areRows}
 use Rattle.sheet.proofs.Limits.{between-bounds, outside, claim-decides}
 use Rattle.sheet.proofs.RowLimits.{passed, failed}
 use borrow.Author.Needs.{needs}
@@ -16,22 +17,28 @@ use Rattle.sheet.proofs.Code.within_limits.Tie as tie
 abbrev codeN : tie.Else1 → Code
 codeN c = c .before .before .args .self
 
-heldN : (c : tie.Else1) → between 2 24 (codeN c .n) ≡ true
+heldN : (c : tie.Else1) → between 2 mostQubits (codeN c .n) ≡ true
 heldN c = passed (c .before .between .ensures) (c .if1 .left)
 
-most : (c : tie.Else1) → codeN c .n ≤ 24
+most : (c : tie.Else1) → codeN c .n ≤ mostQubits
 most c = between-bounds _ _ _ (heldN c) .1
 
 -- ---- r
 
+toldR : (c : tie.After-between2)
+    → c .between2 .result ≡ between 1 (mostGenerators (codeN (c .before .before) .n)) (codeN (c .before .before) .r)
+toldR c =
+    c .between2 .ensures
+    ∙ ap (λ most. between 1 most (codeN (c .before .before) .r)) (c .before .most-generators .ensures)
+
 abbrev nOfR : tie.Else2 → tie.Else1
-nOfR c = c .before .before
+nOfR c = c .before .before .before
 
 abbrev codeR : tie.Else2 → Code
 codeR c = codeN (nOfR c)
 
-heldR : (c : tie.Else2) → between 1 (codeR c .n - 1) (codeR c .r) ≡ true
-heldR c = passed (c .before .between2 .ensures) (c .if2 .left)
+heldR : (c : tie.Else2) → between 1 (mostGenerators (codeR c .n)) (codeR c .r) ≡ true
+heldR c = passed (toldR (c .before)) (c .if2 .left)
 
 -- ---- d
 
@@ -41,7 +48,7 @@ rOfD c = c .before .before
 abbrev codeD : tie.Else3 → Code
 codeD c = codeR (rOfD c)
 
-heldD : (c : tie.Else3) → between 1 7 (codeD c .d) ≡ true
+heldD : (c : tie.Else3) → between 1 longestDistance (codeD c .d) ≡ true
 heldD c = passed (c .before .between3 .ensures) (c .if3 .left)
 
 -- ---- the g rows
@@ -57,17 +64,34 @@ heldG c = passed (c .before .are-rows .ensures) (c .if4 .left)
 
 -- ---- the x rows
 
+abbrev codeK : tie.After-pair-count → Code
+codeK c = codeG (c .before)
+
+toldX : (c : tie.After-are-rows2)
+    → c .are-rows2 .result ≡ areRows (codeK (c .before) .n) (logicalCount (codeK (c .before))) (codeK (c .before) .x)
+unfolding logicalCount
+toldX c =
+    c .are-rows2 .ensures
+    ∙ ap (λ k. areRows (codeK (c .before) .n) k (codeK (c .before) .x)) (c .before .pair-count .ensures)
+
 abbrev gOfX : tie.Else5 → tie.Else4
-gOfX c = c .before .before
+gOfX c = c .before .before .before
 
 abbrev codeX : tie.Else5 → Code
 codeX c = codeG (gOfX c)
 
 heldX : (c : tie.Else5) → areRows (codeX c .n) (logicalCount (codeX c)) (codeX c .x) ≡ true
-unfolding logicalCount
-heldX c = passed (c .before .are-rows2 .ensures) (c .if5 .left)
+heldX c = passed (toldX (c .before)) (c .if5 .left)
 
 -- ---- the z rows
+
+toldZ : (c : tie.After-are-rows3)
+    → c .are-rows3 .result ≡ areRows (codeX (c .before) .n) (logicalCount (codeX (c .before))) (codeX (c .before) .z)
+unfolding logicalCount
+toldZ c =
+    c .are-rows3 .ensures
+    ∙ ap (λ k. areRows (codeX (c .before) .n) k (codeX (c .before) .z))
+    (c .before .before .before .pair-count .ensures)
 
 abbrev xOfZ : tie.Else6 → tie.Else5
 xOfZ c = c .before .before
@@ -76,47 +100,36 @@ abbrev codeZ : tie.Else6 → Code
 codeZ c = codeX (xOfZ c)
 
 heldZ : (c : tie.Else6) → areRows (codeZ c .n) (logicalCount (codeZ c)) (codeZ c .z) ≡ true
-unfolding logicalCount
-heldZ c = passed (c .before .are-rows3 .ensures) (c .if6 .left)
+heldZ c = passed (toldZ (c .before)) (c .if6 .left)
 
 -- ---- the needs
 
 returns : tie.Need-returns
-returns c = outside (c .before .before .args .self) (failed (c .before .between .ensures) (c .if1 .taken)) (λ tests. tests .qubits)
-
-sub-between : tie.Need-sub-between
-sub-between c = omega (arith, between-bounds _ _ _ (heldN c))
+returns c = outside _ (failed (c .before .between .ensures) (c .if1 .taken)) (λ tests. tests .qubits)
 
 returns-2 : tie.Need-returns-2
-returns-2 c =
-    outside (codeN (c .before .before)) (failed (c .before .between2 .ensures) (c .if2 .taken)) (λ tests. tests .generatorCount)
+returns-2 c = outside _ (failed (toldR (c .before)) (c .if2 .taken)) (λ tests. tests .generatorCount)
 
 returns-3 : tie.Need-returns-3
-returns-3 c = outside (codeR (c .before .before)) (failed (c .before .between3 .ensures) (c .if3 .taken)) (λ tests. tests .distance)
+returns-3 c = outside _ (failed (c .before .between3 .ensures) (c .if3 .taken)) (λ tests. tests .distance)
 
 are-rows-requires : tie.Need-are-rows-requires
 are-rows-requires c κs = most (nOfR (rOfD c))
 
 returns-4 : tie.Need-returns-4
-returns-4 c =
-    outside (codeD (c .before .before)) (failed (c .before .are-rows .ensures) (c .if4 .taken)) (λ tests. tests .generatorRows)
-
-sub-k : tie.Need-sub-k
-sub-k c = omega (arith, between-bounds _ _ _ (heldR (rOfD (dOfG c))))
+returns-4 c = outside _ (failed (c .before .are-rows .ensures) (c .if4 .taken)) (λ tests. tests .generatorRows)
 
 are-rows-requires-2 : tie.Need-are-rows-requires-2
-are-rows-requires-2 c κs = most (nOfR (rOfD (dOfG c)))
+are-rows-requires-2 c κs = most (nOfR (rOfD (dOfG (c .before))))
 
 returns-5 : tie.Need-returns-5
-unfolding logicalCount
-returns-5 c = outside (codeG (c .before .before)) (failed (c .before .are-rows2 .ensures) (c .if5 .taken)) (λ tests. tests .xRows)
+returns-5 c = outside _ (failed (toldX (c .before)) (c .if5 .taken)) (λ tests. tests .xRows)
 
 are-rows-requires-3 : tie.Need-are-rows-requires-3
 are-rows-requires-3 c κs = most (nOfR (rOfD (dOfG (gOfX c))))
 
 returns-6 : tie.Need-returns-6
-unfolding logicalCount
-returns-6 c = outside (codeX (c .before .before)) (failed (c .before .are-rows3 .ensures) (c .if6 .taken)) (λ tests. tests .zRows)
+returns-6 c = outside _ (failed (toldZ (c .before)) (c .if6 .taken)) (λ tests. tests .zRows)
 
 is-claim-requires : tie.Need-is-claim-requires
 is-claim-requires c κs = most (nOfR (rOfD (dOfG (gOfX (xOfZ c)))))
@@ -136,14 +149,14 @@ within-limits-spec =
     (tie.spec
     (λ c κs. search needs)
     returns
-    sub-between
+    (λ c κs. search needs)
     (λ c κs. search needs)
     returns-2
     (λ c κs. search needs)
     returns-3
     are-rows-requires
     returns-4
-    sub-k
+    (λ c κs. search needs)
     are-rows-requires-2
     returns-5
     are-rows-requires-3

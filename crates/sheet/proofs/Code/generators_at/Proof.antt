@@ -1,0 +1,12 @@
+-- The generators of every record begin at one line.
+use mathlib.Core.Path.{refl}
+use Rattle.sheet.specs.Record.{generatorsAt}
+use Rattle.sheet.proofs.Code.generators_at.Statement.{statement}
+use Rattle.sheet.proofs.Code.generators_at.Tie as tie
+
+returns : tie.Need-returns
+unfolding generatorsAt
+returns c = refl
+
+pub generators-at-spec : {M : Type 1} → statement M
+generators-at-spec = tie.close (tie.spec returns)
