@@ -107,7 +107,7 @@ rowKind Family.Generator = Generator
 rowKind Family.LogicalX = LogicalX
 rowKind Family.LogicalZ = LogicalZ
 
-row-key : (family : Family) → bytes (rowKey family) ≡ kindKey (rowKind family)
+pub row-key : (family : Family) → bytes (rowKey family) ≡ kindKey (rowKind family)
 unfolding bytes
 row-key Family.Generator = refl
 row-key Family.LogicalX = refl

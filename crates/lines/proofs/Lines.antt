@@ -15,17 +15,18 @@ use Rattle.pauli.specs.declared.Pauli.{Pauli}
 use Rattle.pauli.specs.declared.Sign.{Sign}
 use Rattle.pauli.specs.Letters.{readSign, rowOf}
 use Rattle.pauli.specs.Lists.{bytes}
-use Rattle.sheet.specs.declared.Lines.{Lines}
+use Rattle.sheet.specs.declared.Family.{Family}
 use Rattle.sheet.specs.declared.Refusal.{Refusal}
 use Rattle.sheet.specs.Reader.{Parsed, Reader, got, stop, done, continue, begins, gotOr, readLetters, readRow, inRange}
-use Rattle.sheet.specs.Reader.{isLine, lineOf, readNumber, qubitDigits, qubitLine, distanceLine, claimLine}
+use Rattle.sheet.specs.Reader.{isLine, lineOf, readNumber, qubitDigits, qubitLine, distanceLine, rowLine, claimLine}
+use Rattle.sheet.specs.Record.{mostQubits, longestDistance, rowKey}
 use Rattle.sheet.specs.Text.{lineFeed}
 use Rattle.sheet.proofs.Limits.{bounds-between, outside-between}
 use Rattle.sheet.proofs.Line.{nonzero-within}
 use Rattle.lines.specs.declared.LineKind.{LineKind}
 use Rattle.lines.specs.LineKinds.{kindByte, kindKey, lineKind}
 use Rattle.lines.specs.Answers.{keyOf, rowBehindKey, withinQubits, linesOf, valueOr}
-use Rattle.lines.proofs.Keys.{key-taken, kind-begins, other-begins}
+use Rattle.lines.proofs.Keys.{key-taken, kind-begins, other-begins, rowKind, row-key}
 use Rattle.lines.proofs.Values.{row-no-sign, row-no-letters, row-value}
 
 -- The byte behind the value decides.
@@ -83,19 +84,27 @@ module _ (k : LineKind) {A : Type 0} (m : ℕ) (read : List ℕ → Option A) (r
 -- The lines of n, d and w by their kinds' keys.
 pub qubit-line-form : (s : List ℕ)
     → qubitLine s
-    ≡ continue (lineOf (kindKey LineKind.Qubits) (qubitDigits s) readNumber (Refusal.Form 1) s) (inRange 2 24 (Refusal.QubitCount 1))
+    ≡ continue (lineOf (kindKey LineKind.Qubits) (qubitDigits s) readNumber (Refusal.Form 1) s) (inRange 2 mostQubits (Refusal.QubitCount 1))
 unfolding qubitLine bytes
 qubit-line-form s = refl
 
 pub distance-line-form : (s : List ℕ)
     → distanceLine s
-    ≡ continue (lineOf (kindKey LineKind.Distance) 1 readNumber (Refusal.Form 2) s) (inRange 1 7 (Refusal.DistanceRange 2))
+    ≡ continue (lineOf (kindKey LineKind.Distance) 1 readNumber (Refusal.Form 2) s) (inRange 1 longestDistance (Refusal.DistanceRange 2))
 unfolding distanceLine bytes
 distance-line-form s = refl
 
 pub claim-line-form : (n at : ℕ) (s : List ℕ) → claimLine n at s ≡ lineOf (kindKey LineKind.Claim) n readLetters (Refusal.Form at) s
 unfolding claimLine bytes
 claim-line-form n at s = refl
+
+-- The line of a row, behind the key of its family.
+pub row-line-form : (family : Family) (n at : ℕ) (s : List ℕ) → begins (bytes (rowKey family)) s ≡ true
+    → rowLine (rowKey family) n at s ≡ rowBehindKey n at s
+unfolding rowLine keyOf
+row-line-form family n at s e =
+    ap (λ key. lineOf key (n + 1) readRow (Refusal.Form at) s)
+    (row-key family ∙ key-taken (rowKind family) s (ap (λ key. begins key s) (sym (row-key family)) ∙ e))
 
 pub digits-few : (s : List ℕ) → (0 < qubitDigits s) × (qubitDigits s ≤ 2)
 unfolding qubitDigits
@@ -139,12 +148,12 @@ module _ (n at : ℕ) (s : List ℕ) (formed : isLine (keyOf s) (n + 1) s ≡ tr
       (ap readRow (row-bytes n s row-within) ∙ row-value (getD s 2 0) (take n (drop 3 s)) g P e h)
       ∙ ap (λ i. got (rowOf g (P .a) (P .b)) (drop i s)) places
 
--- Up to 24 qubits, and beyond.
+-- Up to the most qubits, and beyond.
 module _ {A : Type 0} (n at : ℕ) (reader : Reader A) (s : List ℕ) where
-  pub few-qubits : n ≤ 24 → withinQubits n at reader s ≡ reader s
+  pub few-qubits : n ≤ mostQubits → withinQubits n at reader s ≡ reader s
   unfolding withinQubits
-  few-qubits h = rw (le-ltb 24 n h)
+  few-qubits h = rw (le-ltb mostQubits n h)
 
-  pub many-qubits : 24 < n → withinQubits n at reader s ≡ stop (Refusal.Form at)
+  pub many-qubits : mostQubits < n → withinQubits n at reader s ≡ stop (Refusal.Form at)
   unfolding withinQubits
-  many-qubits h = rw (lt-ltb 24 n h)
+  many-qubits h = rw (lt-ltb mostQubits n h)

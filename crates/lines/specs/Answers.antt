@@ -9,6 +9,7 @@ use Rattle.pauli.specs.declared.Pauli.{Pauli}
 use Rattle.pauli.specs.Product.{identity}
 use Rattle.sheet.specs.declared.Lines.{Lines}
 use Rattle.sheet.specs.declared.Refusal.{Refusal}
+use Rattle.sheet.specs.Record.{mostQubits}
 use Rattle.sheet.specs.Reader.{Parsed, Reader, got, stop, lineOf, readNumber, readRow}
 use Rattle.lines.specs.declared.Number.{Number}
 use Rattle.lines.specs.declared.Letters.{Letters}
@@ -26,9 +27,9 @@ numberBehindKey digits at s = lineOf (keyOf s) digits readNumber (Refusal.Form a
 abbrev pub rowBehindKey : ℕ → ℕ → Reader Pauli
 rowBehindKey n at s = lineOf (keyOf s) (n + 1) readRow (Refusal.Form at) s
 
--- A row of more than 24 qubits is off its form: no sheet has one.
+-- A row of more qubits than a sheet may have is off its form.
 unfoldable pub withinQubits : {A : Type 0} → ℕ → ℕ → Reader A → Reader A
-withinQubits n at reader s = cond (ltb 24 n) (stop (Refusal.Form at)) (reader s)
+withinQubits n at reader s = cond (ltb mostQubits n) (stop (Refusal.Form at)) (reader s)
 
 -- What bytes were read as, where they were read as something.
 abbrev pub numberIn : Number → Option ℕ

@@ -7,13 +7,15 @@ use pauli::Sign;
 use pauli::SignRead;
 use sheet::Family;
 use sheet::Lines;
+use sheet::MOST_DISTANCE;
+use sheet::MOST_QUBITS;
 use sheet::Refusal;
 ghost use mathlib.Core.Path.{_≡_};
 ghost use mathlib.Core.List.{List};
-ghost use Prim.Native.Nat.{ℕ, _≤_, _<_};
+ghost use Prim.Native.Nat.{ℕ, _+_, _≤_, _<_};
 ghost use lib.ListN.{length};
 ghost use Rattle.pauli.specs.Lists.{bytes};
-ghost use Rattle.sheet.specs.Record.{rowKey};
+ghost use Rattle.sheet.specs.Record.{mostQubits, rowKey};
 ghost use Rattle.sheet.specs.Reader.{Parsed, continue, begins, isLine, qubitDigits, readDigit, readNumber, readLetters};
 ghost use Rattle.sheet.specs.Reader.{inRange, qubitLine, distanceLine, claimLine};
 ghost use Rattle.lines.specs.LineKinds.{lineKind};
@@ -81,7 +83,7 @@ pub fn begins_row(s: &[u8], family: Family) -> bool
 
 // Whether a line feed stands behind the key and m more bytes.
 fn is_line(s: &[u8], m: usize) -> bool
-    requires { ⌜ m ≤ 25 ⌝ }
+    requires { ⌜ m ≤ mostQubits + 1 ⌝ }
     ensures { λ r. ⌜ r ≡ isLine (keyOf (now (s .entry))) m (now (s .entry)) ⌝ }
 {
     m + 2 < s.len() && s[m + 2] == b'\n'
@@ -130,7 +132,7 @@ fn read_number(word: &[u8]) -> Number
 
 // Letters, as a row with sign +. The masks grow from the last letter to the first.
 fn read_letters(word: &[u8]) -> Letters
-    requires { ⌜ length (now word) ≤ 24 ⌝ }
+    requires { ⌜ length (now word) ≤ mostQubits ⌝ }
     ensures { λ r. ⌜ rowIn r ≡ readLetters (now (word .entry)) ⌝ }
 {
     let mut a: u32 = 0;
@@ -215,7 +217,7 @@ pub fn qubit_line(s: &[u8]) -> NumberLine
         return NumberLine::refused(Refusal::Form(1));
     };
     let line = number_line(s, qubit_digits(s), 1);
-    line.in_range(2, 24, Refusal::QubitCount(1))
+    line.in_range(2, MOST_QUBITS, Refusal::QubitCount(1))
 }
 
 // The line of d.
@@ -226,7 +228,7 @@ pub fn distance_line(s: &[u8]) -> NumberLine
         return NumberLine::refused(Refusal::Form(2));
     };
     let line = number_line(s, 1, 2);
-    line.in_range(1, 7, Refusal::DistanceRange(2))
+    line.in_range(1, MOST_DISTANCE, Refusal::DistanceRange(2))
 }
 
 // The answer of the reader of a line with letters, and the row, +I beside a refusal.
@@ -246,11 +248,12 @@ impl RowLine {
     }
 }
 
-// The line of a signed row behind any key: a sign, then n letters. A row of more than 24 letters is off its form.
+// The line of a signed row behind any key: a sign, then n letters. A row of more qubits than a sheet may have is
+// off its form.
 pub fn signed_row(s: &[u8], n: usize, at: usize) -> RowLine
     ensures { λ r. ⌜ r ≡ rowAnswer (now (s .entry)) (withinQubits n at (rowBehindKey n at) (now (s .entry))) ⌝ }
 {
-    if 24 < n {
+    if MOST_QUBITS < n {
         return RowLine::refused(at);
     }
     if !is_line(s, n + 1) {
@@ -272,7 +275,7 @@ pub fn signed_row(s: &[u8], n: usize, at: usize) -> RowLine
 pub fn claim_line(s: &[u8], n: usize, at: usize) -> RowLine
     ensures { λ r. ⌜ r ≡ rowAnswer (now (s .entry)) (withinQubits n at (claimLine n at) (now (s .entry))) ⌝ }
 {
-    if 24 < n {
+    if MOST_QUBITS < n {
         return RowLine::refused(at);
     }
     let LineKind::Claim = line_kind(s) else {

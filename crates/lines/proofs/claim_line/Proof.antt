@@ -9,6 +9,7 @@ use borrow.Author.Tests.{not-true, not-false}
 use lib.ListN.{length, take, drop}
 use Rattle.pauli.specs.declared.Pauli.{Pauli}
 use Rattle.sheet.specs.declared.Refusal.{Refusal}
+use Rattle.sheet.specs.Record.{mostQubits}
 use Rattle.sheet.specs.Reader.{Parsed, claimLine, lineOf, isLine, readLetters}
 use Rattle.lines.specs.declared.LineKind.{LineKind}
 use Rattle.lines.specs.declared.RowLine.{RowLine}
@@ -27,7 +28,7 @@ abbrev n : tie.Start → ℕ
 n c = c .args .n
 
 -- what the definition gives, at a row that is not too long
-gives : (c : tie.Start) → n c ≤ 24 → {r : RowLine} → r ≡ rowAnswer (s c) (claimLine (n c) (c .args .at) (s c))
+gives : (c : tie.Start) → n c ≤ mostQubits → {r : RowLine} → r ≡ rowAnswer (s c) (claimLine (n c) (c .args .at) (s c))
     → r ≡ rowAnswer (s c) (withinQubits (n c) (c .args .at) (claimLine (n c) (c .args .at)) (s c))
 gives c h e = e ∙ ap (rowAnswer (s c)) (sym (few-qubits (n c) (c .args .at) (claimLine (n c) (c .args .at)) (s c) h))
 

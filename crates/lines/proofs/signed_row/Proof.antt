@@ -11,6 +11,7 @@ use Rattle.pauli.specs.declared.Pauli.{Pauli}
 use Rattle.pauli.specs.Letters.{signIn, readSign}
 use Rattle.sheet.specs.declared.Lines.{Lines}
 use Rattle.sheet.specs.declared.Refusal.{Refusal}
+use Rattle.sheet.specs.Record.{mostQubits}
 use Rattle.sheet.specs.Reader.{Parsed, got, stop, isLine, readLetters}
 use Rattle.lines.specs.declared.RowLine.{RowLine}
 use Rattle.lines.specs.Answers.{keyOf, rowIn, rowBehindKey, withinQubits, rowAnswer}
@@ -33,7 +34,7 @@ s c = c .args .s .now
 abbrev row-line : tie.Start → Parsed Pauli
 row-line c = rowBehindKey (n c) (c .args .at) (s c)
 
-gives : (c : tie.Start) → n c ≤ 24 → {r : RowLine} → r ≡ rowAnswer (s c) (row-line c)
+gives : (c : tie.Start) → n c ≤ mostQubits → {r : RowLine} → r ≡ rowAnswer (s c) (row-line c)
     → r ≡ rowAnswer (s c) (withinQubits (n c) (c .args .at) (rowBehindKey (n c) (c .args .at)) (s c))
 gives c h e = e ∙ ap (rowAnswer (s c)) (sym (few-qubits (n c) (c .args .at) (rowBehindKey (n c) (c .args .at)) (s c) h))
 
