@@ -1,4 +1,4 @@
--- What owning a record tells of its arrays: each has its room.
+-- Each array of a record that a function is given has its room: the record's type says so, field by field.
 use mathlib.Core.List.{[], _∷_}
 use mathlib.Core.Path.{sym, _∙_}
 use lib.ListN.{length-map}

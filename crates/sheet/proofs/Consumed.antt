@@ -1,7 +1,8 @@
--- What each reader of a sheet's lines has read where it gives a value, and which numbers its refusals have. A line is known
--- from its value (Line, Values); rows one below the other go by induction, a row and then the others.
+-- What each reader of a sheet's lines has read where it gives a value, and which numbers its refusals have. A line is
+-- known from its value (Line, Values); rows one below the other go by induction, a row and then the others.
 use mathlib.Core.Bool.{Bool, true, false, cond, _||_}
 use mathlib.Core.List.{List, [], _∷_, map, flatMap, append-assoc}
+use mathlib.Core.Option.{some}
 use mathlib.Core.Path.{_≡_, refl, ap₂, _∙_}
 use Prim.Native.Nat.{ℕ, zero, suc, _+_, _≤_}
 use Prim.Native.String.{String}
@@ -15,8 +16,8 @@ use Rattle.pauli.specs.Lists.{bytes, allOf, anyOf}
 use Rattle.pauli.specs.Product.{modulo4}
 use Rattle.sheet.specs.declared.Refusal.{Refusal}
 use Rattle.sheet.specs.Reader.{Reader, stop, done, _andThen_, begins, readLine, readNumber, readRow, readLetters}
-use Rattle.sheet.specs.Reader.{inRange, qubitLine, distanceLine, rowLine, rowsUpTo, countedGenerators, generatorLines}
-use Rattle.sheet.specs.Reader.{countedLogicals, logicalLines, claimLine}
+use Rattle.sheet.specs.Reader.{inRange, qubitLine, distanceLine, rowLine, rowsUpTo, countedGenerators}
+use Rattle.sheet.specs.Reader.{generatorLines, countedLogicals, logicalLines, claimLine}
 use Rattle.sheet.specs.Record.{mostQubits, longestDistance, mostGenerators, between, isRow}
 use Rattle.sheet.specs.Statements.{Among}
 use Rattle.sheet.specs.Text.{line, decimal}
@@ -53,11 +54,13 @@ in-range-outcome {Got} low high m refusal s h r = go (between low high m) refl
     go true e = gets (h (between-bounds low high m e))
     go false e = stops r
 
-number-line-outcome : (key : String) (width low high : ℕ) (form range : Refusal) (s : List ℕ) → OfForm form → OfForm range
+number-line-outcome : (key : String) (width low high : ℕ) (form range : Refusal) (s : List ℕ) → OfForm form
+    → OfForm range
     → Outcome (NumberLine key low high s) OfForm ((readLine key width readNumber form andThen inRange low high range) s)
 number-line-outcome key width low high form range s hf hr =
-    let line-read = line-outcome {Law = λ m. Unit {0}} key width readNumber (λ v m h e. (tt, number-written v m e)) form s hf in
-    continue-outcome line-read λ m s' h.
+    let back : (v : List ℕ) (m : ℕ) → length v ≡ width → readNumber v ≡ some m → Unit {0} × (v ≡ decimal m) =
+    λ v m h e. (tt, number-written v m e) in
+    continue-outcome (line-outcome key width readNumber back form s hf) λ m s' h.
     in-range-outcome low high m range s' (λ b. record { lawful = b; bytes-read = h .bytes-read }) hr
 
 pub qubit-line-outcome : (s : List ℕ) → Outcome (NumberLine "n=" 2 mostQubits s) OfForm (qubitLine s)
@@ -66,7 +69,8 @@ qubit-line-outcome s = number-line-outcome "n=" _ 2 mostQubits (Refusal.Form 1) 
 
 pub distance-line-outcome : (s : List ℕ) → Outcome (NumberLine "d=" 1 longestDistance s) OfForm (distanceLine s)
 unfolding distanceLine anyOf
-distance-line-outcome s = number-line-outcome "d=" 1 1 longestDistance (Refusal.Form 2) (Refusal.DistanceRange 2) s refl refl
+distance-line-outcome s =
+    number-line-outcome "d=" 1 1 longestDistance (Refusal.Form 2) (Refusal.DistanceRange 2) s refl refl
 
 -- ---- rows
 

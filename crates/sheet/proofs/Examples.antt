@@ -37,8 +37,8 @@ cases =
     ∷ Refusal.GeneratorsAnticommute 8 Family.Generator ∷ Refusal.MinusIdentity 8 Family.Generator
     ∷ Refusal.DependentGenerator 8 Family.Generator ∷ Refusal.LogicalAnticommutes 8 Family.LogicalX
     ∷ Refusal.LogicalPairing 8 Family.LogicalZ ∷ Refusal.ClaimedWeight 8 ∷ Refusal.ClaimedAnticommutes 8
-    ∷ Refusal.ClaimedInGroup 8 ∷ Refusal.DistanceRefuted 8 (record { n = 0; e = identity; f = identity }) ∷ Refusal.RecordLimits
-    ∷ Refusal.Syndrome 8 ∷ Refusal.ShortBuffer ∷ []
+    ∷ Refusal.ClaimedInGroup 8 ∷ Refusal.DistanceRefuted 8 (record { n = 0; e = identity; f = identity })
+    ∷ Refusal.RecordLimits ∷ Refusal.Syndrome 8 ∷ Refusal.ShortBuffer ∷ []
 
 numbers :
     map (λ refusal. values refusal .number) cases
@@ -222,7 +222,8 @@ inside =
 
 outside : List Code
 outside =
-    codeK 25 1 zz xx zi zi ∷ codeK 1 1 identity identity identity identity ∷ codeK 2 0 zz xx zi zi ∷ codeK 2 8 zz xx zi zi
+    codeK 25 1 zz xx zi zi ∷ codeK 1 1 identity identity identity identity
+    ∷ codeK 2 0 zz xx zi zi ∷ codeK 2 8 zz xx zi zi
     -- r is 0, and n
     ∷ codeOf 2 1 [] (xx ∷ []) (zi ∷ []) zi ∷ codeOf 2 1 (zz ∷ xx ∷ []) [] [] zi
     ∷ codeK 2 1 above-a xx zi zi ∷ codeK 2 1 above-b xx zi zi ∷ codeK 2 1 zz above-a zi zi ∷ codeK 2 1 zz xx above-b zi
@@ -232,7 +233,15 @@ outside =
     ∷ codeK 2 1 zz xx zi (signedRow Minus (Z ∷ I ∷ []))
     -- an unused row is not I: of x, of z, of g
     ∷ codeOf 2 1 (zz ∷ []) (xx ∷ xx ∷ []) (zi ∷ []) zi ∷ codeOf 2 1 (zz ∷ []) (xx ∷ []) (zi ∷ zi ∷ []) zi
-    ∷ record { n = 2; r = 1; d = 1; g = filled generatorRoom (zz ∷ zz ∷ []); x = filled logicalRoom (xx ∷ []); z = filled logicalRoom (zi ∷ []); w = zi }
+    ∷ record {
+      n = 2;
+      r = 1;
+      d = 1;
+      g = filled generatorRoom (zz ∷ zz ∷ []);
+      x = filled logicalRoom (xx ∷ []);
+      z = filled logicalRoom (zi ∷ []);
+      w = zi;
+    }
     ∷ emptyCode ∷ []
 
 limits : (allOf withinLimits inside ≡ true) × (anyOf withinLimits outside ≡ false)
@@ -248,7 +257,8 @@ writer-refuses :
 unfolding codeA definitions
 writer-refuses = (refl, refl)
 
-writer-writes : writeSheet codeA (replicate 72 7) ≡ record { answer = Written.Count 70; buffer = bytes sheetA ++ 7 ∷ 7 ∷ [] }
+writer-writes :
+    writeSheet codeA (replicate 72 7) ≡ record { answer = Written.Count 70; buffer = bytes sheetA ++ 7 ∷ 7 ∷ [] }
 unfolding codeA definitions
 writer-writes = refl
 

@@ -1,13 +1,13 @@
--- Rows at the front of an array, with +I in the places behind them: what stands where, that such an array is lawful where
--- its rows are, and that every lawful array is such a one, but for phases modulo 4.
+-- Rows at the front of an array, with +I in the places behind them: what stands where, that such an array is lawful
+-- where its rows are, and that every lawful array is such a one, but for phases modulo 4.
 use mathlib.Core.Bool.{true}
 use mathlib.Core.List.{List, [], _∷_, _++_, map, map-append, append-assoc}
 use mathlib.Core.Path.{_≡_, refl, ap, sym, _∙_}
 use Prim.Native.Nat.{ℕ, zero, suc, _-_, _%_, _≤_, _<_}
 use native.Mathlib.Omega.{arith}
 use borrow.Author.Tests.{eqb-true}
-use lib.ListN.{length, take, drop, set, replicate, length-append, length-map, length-take, length-drop, length-replicate}
-use lib.ListN.{take-append-drop}
+use lib.ListN.{length, take, drop, set, replicate, length-append, length-map, length-take, length-drop}
+use lib.ListN.{length-replicate, take-append-drop}
 use lib.Seq.{take-at, drop-at, set-append-seam}
 use Rattle.pauli.specs.declared.Pauli.{Pauli}
 use Rattle.pauli.specs.Lists.{allOf}
@@ -67,7 +67,8 @@ pub filled-more : (room : ℕ) (rows : List Pauli) (row : Pauli) → length rows
     → set (filled room rows) (length rows) row ≡ filled room (rows ++ row ∷ [])
 unfolding filled
 filled-more room rows row h =
-    let left : room - length rows ≡ suc (room - length (rows ++ row ∷ [])) = omega (arith, length-append rows (row ∷ [])) in
+    let left : room - length rows ≡ suc (room - length (rows ++ row ∷ [])) =
+    omega (arith, length-append rows (row ∷ [])) in
     ap (λ m. set (rows ++ replicate m identity) (length rows) row) left
     ∙ set-append-seam rows identity (replicate (room - length (rows ++ row ∷ [])) identity) row
     ∙ sym (append-assoc rows (row ∷ []) (replicate (room - length (rows ++ row ∷ [])) identity))

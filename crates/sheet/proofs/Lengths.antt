@@ -1,6 +1,6 @@
--- How many bytes a sheet's lines and texts have. A line has its key, its value and a line feed; the digits of a number are
--- those of its tenth and one more, so a number below 100 has one or two; rows of n qubits have lines of one length. A
--- sheet's text has the sum of its lines, which is largest at n = 24, r = 1.
+-- How many bytes a sheet's lines and texts have. A line has its key, its value and a line feed; the digits of a number
+-- are those of its tenth and one more, so a number below 100 has one or two; rows of n qubits have lines of one length.
+-- A sheet's text has the sum of its lines, which is largest at n = 24, r = 1.
 use mathlib.Core.Path.{_≡_, ap, _∙_}
 use mathlib.Core.Bool.{Bool, true, false, cond}
 use mathlib.Core.List.{List, [], _∷_, _++_, flatMap}
@@ -19,7 +19,8 @@ use Rattle.pauli.specs.Letters.{letterText, rowText}
 use Rattle.pauli.specs.Lists.{bytes}
 use Rattle.pauli.proofs.Letters.{length-lettersOf}
 use Rattle.sheet.specs.declared.Code.{Code}
-use Rattle.sheet.specs.Record.{mostQubits, longestSheet, pairCount, logicalCount, generators, logicalXs, logicalZs, withinLimits}
+use Rattle.sheet.specs.Record.{mostQubits, longestSheet, pairCount, logicalCount, withinLimits}
+use Rattle.sheet.specs.Record.{generators, logicalXs, logicalZs}
 use Rattle.sheet.specs.Statements.{Sized}
 use Rattle.sheet.specs.Text.{line, digitsOf, decimal}
 use Rattle.sheet.specs.Writer.{rowLines, sheetText}

@@ -14,3 +14,4 @@ pub mod WrittenRead
 pub mod Longest
 pub mod Numbers
 pub mod Untouched
+pub mod WrittenText

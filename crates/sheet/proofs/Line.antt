@@ -1,5 +1,5 @@
--- A line: its key, its value's text, a line feed. The reader of a line reads such bytes, with anything behind them, and it
--- reads no others, if its value is read from the value's text and from no other bytes (Values).
+-- A line: its key, its value's text, a line feed. The reader of a line reads such bytes, with anything behind them, and
+-- it reads no others, if its value is read from the value's text and from no other bytes (Values).
 use mathlib.Core.Bool.{true, _&&_, false≢true}
 use mathlib.Core.List.{List, [], _∷_, _++_, append-assoc}
 use mathlib.Core.Option.{Option, some}

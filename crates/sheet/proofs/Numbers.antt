@@ -1,6 +1,6 @@
--- The numbers with which the reader of the lines and the writer refuse. A law of refusals holds of a call's answer if it
--- holds of each check's refusal: it passes through a chain of checks and through a guarded call. The reader's refusals come
--- with what is known of its outcome.
+-- The numbers with which the reader of the lines and the writer refuse. A law of refusals holds of a call's answer if
+-- it holds of each check's refusal: it passes through a chain of checks and through a guarded call. The reader's
+-- refusals come with what is known of its outcome.
 use mathlib.Core.Bool.{Bool, true, false}
 use mathlib.Core.List.{List}
 use mathlib.Core.Option.{Option, none, some}

@@ -1,5 +1,5 @@
--- What is known of a reader's outcome: of a value and the rest of the bytes, and of a refusal. Such a fact passes from step
--- to step of a reader as its bytes do.
+-- What is known of a reader's outcome: of a value and the rest of the bytes, and of a refusal. Such a fact passes from
+-- step to step of a reader as its bytes do.
 use mathlib.Core.Bool.{Bool, true, false, cond}
 use mathlib.Core.List.{List, _++_}
 use mathlib.Core.Option.{Option, none, some}

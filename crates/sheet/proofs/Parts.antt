@@ -1,4 +1,4 @@
--- A part of a slice: what is lent from a place on.
+-- A part of a slice that is lent from a place on is the list from there on: what is taken of it is all that is left.
 use mathlib.Core.List.{List}
 use mathlib.Core.Path.{_≡_}
 use Prim.Native.Nat.{ℕ, _-_}

@@ -1,6 +1,6 @@
 -- Writing what was read gives the bytes that were read, and what is read is a lawful record. What is known of the lines
--- one by one says that the bytes are the texts of the values read, and that these are within the limits; the record made
--- of the values has them at the front of its arrays, and so gives them back.
+-- one by one says that the bytes are the texts of the values read, and that these are within the limits; the record
+-- made of the values has them at the front of its arrays, and so gives them back.
 use mathlib.Core.List.{List, [], _∷_, _++_, append-assoc}
 use mathlib.Core.Path.{_≡_, refl, ap, sym, _∙_}
 use Prim.Native.Nat.{ℕ, _+_, _-_, _*_, _≤_}
@@ -31,7 +31,8 @@ module _
     (hn : NumberLine "n=" 2 mostQubits s n s₁) (hd : NumberLine "d=" 1 longestDistance s₁ d s₂)
     (hg : RowLines "g=" n 1 (mostGenerators n) s₂ gs s₃)
     (hx : RowLines "x=" n (pairCount n (length gs)) (pairCount n (length gs)) s₃ xs s₄)
-    (hz : RowLines "z=" n (pairCount n (length gs)) (pairCount n (length gs)) s₄ zs s₅) (hw : ClaimLine n s₅ w rest) where
+    (hz : RowLines "z=" n (pairCount n (length gs)) (pairCount n (length gs)) s₄ zs s₅)
+    (hw : ClaimLine n s₅ w rest) where
   abbrev sheet-read : SheetRead
   sheet-read = record {
     code = codeOf n d gs xs zs w;

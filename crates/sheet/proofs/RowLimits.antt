@@ -1,5 +1,5 @@
--- The tests of rows as the code makes them: one operand of `&&` after the other, the masks against a shifted one, and the rows of a family
--- place by place.
+-- The tests of rows as the code makes them: one operand of `&&` after the other, the masks against a shifted one, and
+-- the rows of a family place by place.
 use mathlib.Core.Bool.{Bool, true, false, not, _&&_, and-assoc}
 use mathlib.Core.List.{List, [], _∷_}
 use mathlib.Core.Path.{_≡_, refl, ap, sym, _∙_}
@@ -19,7 +19,7 @@ use Rattle.sheet.proofs.Limits.{all-first}
 use Rattle.sheet.specs.declared.Code.{Code}
 use Rattle.sheet.specs.declared.Family.{Family}
 use Rattle.sheet.specs.declared.Family.the-variants.{Generator, LogicalX, LogicalZ}
-use Rattle.sheet.specs.Record.{rowsOf, roomOf, isRow, areRows}
+use Rattle.sheet.specs.Record.{mostQubits, rowsOf, roomOf, isRow, areRows}
 use Rattle.sheet.specs.Statements.{Sized}
 
 -- ---- `a && b`: b where a holds, a where it does not
@@ -46,7 +46,7 @@ eqb-swap m k = swapped (eqb m k) refl
 
 -- ---- one row
 
-pub shifted-one : (n : ℕ) → n ≤ 24 → 1 * 2 ^ n % 4294967296 ≡ 2 ^ n
+pub shifted-one : (n : ℕ) → n ≤ mostQubits → 1 * 2 ^ n % 4294967296 ≡ 2 ^ n
 shifted-one n h = shl-exact 1 n 32 (omega arith) (omega arith) ∙ one-mul (2 ^ n)
 
 pub same-identity : (P : Pauli) → samePauli identity P ≡ (eqb (P .p % 4) 0 && (eqb (P .a) 0 && eqb (P .b) 0))
@@ -64,13 +64,15 @@ room-of c sized LogicalX = sized .roomX
 room-of c sized LogicalZ = sized .roomZ
 
 module _ (n : ℕ) where
-  areRows-cons-used : (m : ℕ) (P : Pauli) (rows : List Pauli) → areRows n (suc m) (P ∷ rows) ≡ (isRow n P && areRows n m rows)
+  areRows-cons-used : (m : ℕ) (P : Pauli) (rows : List Pauli)
+      → areRows n (suc m) (P ∷ rows) ≡ (isRow n P && areRows n m rows)
   unfolding areRows
   areRows-cons-used m P rows =
       ap (λ t. t && allOf (samePauli identity) (drop m rows)) (all-first (isRow n) P (take m rows))
       ∙ and-assoc (isRow n P) (allOf (isRow n) (take m rows)) (allOf (samePauli identity) (drop m rows))
 
-  areRows-cons-unused : (P : Pauli) (rows : List Pauli) → areRows n 0 (P ∷ rows) ≡ (samePauli identity P && areRows n 0 rows)
+  areRows-cons-unused : (P : Pauli) (rows : List Pauli)
+      → areRows n 0 (P ∷ rows) ≡ (samePauli identity P && areRows n 0 rows)
   unfolding areRows allOf
   areRows-cons-unused P rows = all-first (samePauli identity) P rows
 
@@ -79,19 +81,24 @@ module _ (n : ℕ) where
   areRows-nil zero = refl
   areRows-nil (suc m) = refl
 
-  pub areRows-behind-end : (m place : ℕ) (rows : List Pauli) → length rows ≤ place → areRows n m (drop place rows) ≡ true
+  pub areRows-behind-end : (m place : ℕ) (rows : List Pauli) → length rows ≤ place
+      → areRows n m (drop place rows) ≡ true
   areRows-behind-end m place rows h = ap (areRows n m) (drop-of-length-le rows h) ∙ areRows-nil m
 
-  module _ (m place : ℕ) (rows : List Pauli) {P : Pauli} {t : Bool} (inside : place < length rows) (here : P ≡ getD rows place identity) where
+  module _
+      (m place : ℕ) (rows : List Pauli) {P : Pauli} {t : Bool} (inside : place < length rows)
+      (here : P ≡ getD rows place identity) where
     pub used-at : place < m → isRow n P ≡ t
         → areRows n (m - place) (drop place rows) ≡ (t && areRows n (m - (place + 1)) (drop (place + 1) rows))
     used-at h test =
         let left : m - place ≡ suc (m - suc place) = omega arith in
-        rw (left, add-one, drop-cons rows place identity, ← here, ← test) (areRows-cons-used (m - suc place) P (drop (suc place) rows))
+        rw (left, add-one, drop-cons rows place identity, ← here, ← test)
+        (areRows-cons-used (m - suc place) P (drop (suc place) rows))
 
     pub unused-at : m ≤ place → samePauli identity P ≡ t
         → areRows n (m - place) (drop place rows) ≡ (t && areRows n (m - (place + 1)) (drop (place + 1) rows))
     unused-at h test =
         let left : m - place ≡ 0 = omega arith in
         let none : m - (place + 1) ≡ 0 = omega arith in
-        rw (left, none, add-one, drop-cons rows place identity, ← here, ← test) (areRows-cons-unused P (drop (suc place) rows))
+        rw (left, none, add-one, drop-cons rows place identity, ← here, ← test)
+        (areRows-cons-unused P (drop (suc place) rows))

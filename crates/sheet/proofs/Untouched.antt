@@ -1,5 +1,5 @@
--- A refusal leaves the buffer as it was. Every call is `guarded`: a refusal comes from its checks, and leaves the buffer, or
--- it would have to be the call's own answer, which is none.
+-- A refusal leaves the buffer as it was. Every call is `guarded`: a refusal comes from its checks, and leaves the
+-- buffer, or it would have to be the call's own answer, which is none.
 use mathlib.Core.List.{List}
 use mathlib.Core.Option.{Option, none, some, Option·none-ne-some}
 use mathlib.Core.Path.{_≡_, refl, sym, _∙_}

@@ -1,6 +1,7 @@
 -- A line's value and its text: from the text the value is read, and from no other bytes. A number's text is its decimal
--- digits, a row's its sign and letters, a claim's its letters. Each byte is read as what is written as that byte; the digits
--- of a number are those of its tenth and one more; and letters say what the masks of a row do (pauli's Letters and Rows).
+-- digits, a row's its sign and letters, a claim's its letters. Each byte is read as what is written as that byte; the
+-- digits of a number are those of its tenth and one more; and letters say what the masks of a row do (pauli's Letters
+-- and Rows).
 use mathlib.Core.Bool.{Bool, true, false}
 use mathlib.Core.List.{List, [], _∷_, _++_, map, foldl, append-nil, Forall₂, Forall₂·nil, Forall₂·cons}
 use mathlib.Core.Option.{Option, some, Option·map, bind, bind-eq-some-iff, map-eq-some-iff, Option·none-ne-some}
@@ -18,8 +19,8 @@ use Rattle.pauli.specs.declared.Letter.{Letter}
 use Rattle.pauli.specs.declared.Letter.the-variants.{I, X, Y, Z}
 use Rattle.pauli.specs.declared.Sign.{Sign}
 use Rattle.pauli.specs.declared.Sign.the-variants.{Plus, Minus}
-use Rattle.pauli.specs.Letters.{readLetter, readSign, letterByte, signByte, letterText, rowText, lettersOf, xMask, zMask}
-use Rattle.pauli.specs.Letters.{rowPhase, rowOf, signedRow, ofLetters, isSignedRow, signOf}
+use Rattle.pauli.specs.Letters.{readLetter, readSign, letterByte, signByte, letterText, rowText, lettersOf}
+use Rattle.pauli.specs.Letters.{xMask, zMask, rowPhase, rowOf, signedRow, ofLetters, isSignedRow, signOf}
 use Rattle.pauli.specs.Lists.{firstOf, readByte}
 use Rattle.pauli.specs.Product.{modulo4}
 use Rattle.pauli.proofs.Letters.{letters-return, xMask-lt, zMask-lt}
@@ -127,7 +128,8 @@ digits-follow m h (Forall₂·cons {a = c} {b = d} {l₁ = cs} e es) =
     let r = digit-written c d e in
     let tenth : (m * 10 + d) / 10 ≡ m = omega arith in
     let last : code "0" + (m * 10 + d) % 10 ≡ c = omega arith in
-    let step : decimal (m * 10 + d) ≡ decimal m ++ c ∷ [] = decimal-snoc (m * 10 + d) (omega arith) ∙ rw (tenth, last) in
+    let step : decimal (m * 10 + d) ≡ decimal m ++ c ∷ [] =
+    decimal-snoc (m * 10 + d) (omega arith) ∙ rw (tenth, last) in
     sym (rw step (append-snoc (decimal m) c cs)) ∙ digits-follow (m * 10 + d) (omega arith) es
 
 pub number-written : (cs : List ℕ) (m : ℕ) → readNumber cs ≡ some m → cs ≡ decimal m
@@ -206,8 +208,8 @@ row-written n (c ∷ cs) P h e =
     let m = map-eq-some-iff (signedRow (b .0)) (readEach readLetter cs) .0 (b .2) in
     go (b .0) (m .0) (b .1) (m .1) (m .2)
   where
-    go : (sign : Sign) (s : List Letter) → readSign c ≡ some sign → readEach readLetter cs ≡ some s → signedRow sign s ≡ P
-        → Row n P × (c ∷ cs ≡ rowText n P)
+    go : (sign : Sign) (s : List Letter) → readSign c ≡ some sign → readEach readLetter cs ≡ some s
+        → signedRow sign s ≡ P → Row n P × (c ∷ cs ≡ rowText n P)
     go sign s ec es eP =
         let width : length cs ≡ n = omega arith in
         rw (← eP, ← width) (

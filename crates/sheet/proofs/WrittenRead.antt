@@ -1,6 +1,6 @@
 -- Reading what was written gives it back. Each reader reads the line that was written and leaves what stands behind it
--- (Line, Values), so the lines are read one after the other; and the rows read, with +I behind them, are the arrays of the
--- record with phases modulo 4 (Filled).
+-- (Line, Values), so the lines are read one after the other; and the rows read, with +I behind them, are the arrays of
+-- the record with phases modulo 4 (Filled).
 use mathlib.Core.Path.{_≡_, refl, _∙_}
 use mathlib.Core.Bool.{true, false}
 use mathlib.Core.List.{List, [], _∷_, _++_, map, flatMap, append-assoc}
@@ -15,12 +15,13 @@ use Rattle.pauli.specs.Lists.{allOf, bytes}
 use Rattle.pauli.specs.Product.{modulo4}
 use Rattle.sheet.specs.declared.Code.{Code}
 use Rattle.sheet.specs.declared.Refusal.{Refusal}
-use Rattle.sheet.specs.Reader.{got, done, continue, begins, readNumber, readLetters, readRow, inRange, qubitDigits}
-use Rattle.sheet.specs.Reader.{qubitLine, distanceLine, rowLine, rowsUpTo, countedGenerators, generatorLines}
-use Rattle.sheet.specs.Reader.{countedLogicals, logicalLines, claimLine, linesAfter, sheetLines, readLines}
-use Rattle.sheet.specs.Record.{generatorRoom, logicalRoom, mostQubits, longestDistance, longestInput, mostGenerators}
-use Rattle.sheet.specs.Record.{pairCount, logicalCount, generatorsAt, logicalsAt, claimAt, firstGeneratorAt}
-use Rattle.sheet.specs.Record.{codeOf, generators, logicalXs, logicalZs, isRow, isClaim}
+use Rattle.sheet.specs.Reader.{got, done, continue, begins, readNumber, readLetters, readRow, inRange}
+use Rattle.sheet.specs.Reader.{qubitDigits, qubitLine, distanceLine, rowLine, rowsUpTo, countedGenerators}
+use Rattle.sheet.specs.Reader.{generatorLines, countedLogicals, logicalLines, claimLine, linesAfter}
+use Rattle.sheet.specs.Reader.{sheetLines, readLines}
+use Rattle.sheet.specs.Record.{generatorRoom, logicalRoom, mostQubits, longestDistance, longestInput}
+use Rattle.sheet.specs.Record.{mostGenerators, pairCount, logicalCount, generatorsAt, logicalsAt, claimAt}
+use Rattle.sheet.specs.Record.{firstGeneratorAt, codeOf, generators, logicalXs, logicalZs, isRow, isClaim}
 use Rattle.sheet.specs.Statements.{Sized, phasesModulo4, ReadAfterWrite}
 use Rattle.sheet.specs.Text.{lineFeed, line, decimal}
 use Rattle.sheet.specs.Writer.{sheetText, rowLines}
@@ -158,8 +159,8 @@ module _ (c : Code) (sized : Sized c) (within : Limits c) where
   lines-after-return at rest =
       rw (
         rows-read,
-        logicals-return (logicalCount c) "x=" (c .n) _ (logicalXs c) _ (within .xRows .used) (length-logicalXs c sized within),
-        logicals-return (logicalCount c) "z=" (c .n) _ (logicalZs c) _ (within .zRows .used) (length-logicalZs c sized within),
+        logicals-return _ "x=" (c .n) _ (logicalXs c) _ (within .xRows .used) (length-logicalXs c sized within),
+        logicals-return _ "z=" (c .n) _ (logicalZs c) _ (within .zRows .used) (length-logicalZs c sized within),
         claim-line-returns (c .n) _ (c .w) rest (within .claim),
         record-returns,
       )
@@ -175,7 +176,7 @@ module _ (c : Code) (sized : Sized c) (within : Limits c) where
         sheet-then c rest,
         qubit-line-returns (c .n) _ (omega arith) (omega arith),
         distance-line-returns (c .d) _ (omega arith) (omega arith),
-        generators-return (c .n) firstGeneratorAt (generators c) _ (within .generatorRows .used) (omega arith) (omega arith)
+        generators-return (c .n) _ (generators c) _ (within .generatorRows .used) (omega arith) (omega arith)
             (no-generator-line (c .n) (logicalXs c) after-x (omega arith)),
         rows-read,
       )

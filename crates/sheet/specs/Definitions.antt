@@ -1,5 +1,5 @@
--- Every definition of this layer and of those below it that computes, to be unfolded at once where an example is computed: a proof that
--- says `unfolding definitions` unfolds all that the line below names.
+-- Every definition of this layer and of those below it that computes, to be unfolded at once where an example is
+-- computed: a proof that says `unfolding definitions` unfolds all that is named below.
 use Rattle.pauli.specs.Definitions.{definitions as definitions-pauli}
 use mathlib.Core.Option.{bind}
 use Rattle.sheet.specs.Refusals.{linesRefusal, writtenRefusal, refuseIf, _then_}
@@ -9,13 +9,13 @@ use Rattle.sheet.specs.Record.{between, onQubits, isRow, isClaim, areRow
 use Rattle.sheet.specs.Text.{lineFeed, line, digitsOf, decimal, laid, untouched, guarded, roomFault, written}
 use Rattle.sheet.specs.Reader.{done, continue, begins, readEach, gotOr, isLine, lineOf, readDigit, numberOf}
 use Rattle.sheet.specs.Reader.{readNumber, readLetters, readRow, inRange, qubitDigits, qubitLine, distanceLine}
-use Rattle.sheet.specs.Reader.{rowLine, rowsUpTo, countedGenerators, generatorLines, countedLogicals, logicalLines}
-use Rattle.sheet.specs.Reader.{claimLine, linesAfter, sheetLines, readLines, nothingBehind, readForm}
-use Rattle.sheet.specs.Reader.{answered, linesReading, formReading, behind}
+use Rattle.sheet.specs.Reader.{rowLine, rowsUpTo, countedGenerators, generatorLines, countedLogicals}
+use Rattle.sheet.specs.Reader.{logicalLines, claimLine, linesAfter, sheetLines, readLines, nothingBehind}
+use Rattle.sheet.specs.Reader.{readForm, answered, linesReading, formReading, behind}
 use Rattle.sheet.specs.Writer.{rowLines, sheetText, writeSheet}
 use Rattle.sheet.specs.Edges.{fiveQubits, sheetA, sheetB, sheetC, sheetD, sheetE, sheetF, sheetG, sheetH, sheetI}
 use Rattle.sheet.specs.Edges.{sheetJ, sheetK, sheetL, nineQubits, eightQubits, fourQubits}
-use Rattle.sheet.specs.Starred.{syndromesA, reportA, refusalC, starred}
+use Rattle.sheet.specs.Starred.{syndromesA, reportA, reportL, refusalC, starred}
 
 unfoldable pub definitions : Unit {0}
 unfolding linesRefusal writtenRefusal refuseIf _then_
@@ -27,5 +27,5 @@ unfolding linesRefusal writtenRefusal refuseIf _then_
     logicalLines claimLine linesAfter sheetLines readLines nothingBehind readForm
     answered linesReading formReading behind rowLines sheetText writeSheet
     fiveQubits sheetA sheetB sheetC sheetD sheetE sheetF sheetG sheetH sheetI sheetJ sheetK sheetL
-    nineQubits eightQubits fourQubits syndromesA reportA refusalC starred bind definitions-pauli
+    nineQubits eightQubits fourQubits syndromesA reportA reportL refusalC starred bind definitions-pauli
 definitions = tt

@@ -1,6 +1,6 @@
 -- The sheet as a function from bytes to an answer.
--- RULES, "The sheet": the reader of each line gets what is behind the line feed of the line before. A line off its form ends the
--- reading, and so does input that ends before a line feed.
+-- RULES, "The sheet": the reader of each line gets what is behind the line feed of the line before. A line off its form
+-- ends the reading, and so does input that ends before a line feed.
 use mathlib.Core.Bool.{Bool, true, false, cond, _&&_, _||_}
 use mathlib.Core.List.{List, [], _∷_, foldl}
 use mathlib.Core.Option.{Option, none, some, Option·map, bind}
@@ -55,7 +55,8 @@ unfoldable pub gotOr : {A : Type 0} → Refusal → Option A → List ℕ → Pa
 gotOr refusal none rest = stop refusal
 gotOr refusal (some a) rest = got a rest
 
--- RULES, "The sheet": a line is a key, a value and a line feed. The bytes begin with the key, and behind m more is a line feed.
+-- RULES, "The sheet": a line is a key, a value and a line feed. The bytes begin with the key, and behind m more is a
+-- line feed.
 unfoldable pub isLine : List ℕ → ℕ → List ℕ → Bool
 isLine key m s = begins key s && eqb (getD (drop (length key) s) m 0) lineFeed
 
@@ -172,7 +173,8 @@ nothingBehind q (b ∷ s) = stop (Refusal.Form (q .claimAt + 1))
 unfoldable pub readForm : Reader SheetRead
 readForm = readLines andThen nothingBehind
 
--- A reading as a call answers it: how many bytes were read, the line of w and the record; or the refusal and the empty record.
+-- A reading as a call answers it: how many bytes were read, the line of w and the record; or the refusal and the empty
+-- record.
 unfoldable pub answered : List ℕ → Parsed SheetRead → LinesReading
 answered s (got q rest) =
     record { answer = Lines.Read (length s - length rest); «claim_at» = q .claimAt; code = q .code }

@@ -18,8 +18,7 @@ use Rattle.sheet.specs.declared.Family.the-variants.{Generator, LogicalX
 use Rattle.sheet.specs.declared.Refusal.{Refusal}
 use Rattle.sheet.specs.Refusals.{refuseIf}
 
--- RULES, "The record": the sizes. A record has room for so many generators, and for so many logicals of each kind; a sheet has so
--- many qubits at most, a distance up to so much, and so many bytes; an input, with what stands behind the sheet, so many bytes.
+-- RULES, "The record": the places for generators, and for logicals of each kind; the most qubits; the longest distance.
 abbrev pub generatorRoom : ℕ
 generatorRoom = 32
 
@@ -32,13 +31,14 @@ mostQubits = 24
 abbrev pub longestDistance : ℕ
 longestDistance = 7
 
+-- RULES, "The sheet": how many bytes an input has at most, and a sheet that passes.
 abbrev pub longestInput : ℕ
 longestInput = 4096
 
 abbrev pub longestSheet : ℕ
 longestSheet = 1352
 
--- RULES, "The sheet": a code of n qubits and r generators has n - r pairs of logicals, and at most n - 1 generators are read.
+-- RULES, "The sheet": n qubits and r generators leave n - r pairs of logicals, and there are n - 1 generators at most.
 unfoldable pub pairCount : ℕ → ℕ → ℕ
 pairCount n r = n - r
 
@@ -48,7 +48,7 @@ mostGenerators n = n - 1
 unfoldable pub logicalCount : Code → ℕ
 logicalCount c = pairCount (c .n) (c .r)
 
--- RULES, "Decoding": t is the whole part of (d - 1) / 2.
+-- RULES, "The record": t is (d - 1) / 2 rounded down.
 unfoldable pub radius : Code → ℕ
 radius c = (c .d - 1) / 2
 
@@ -61,7 +61,8 @@ logicalXs c = take (logicalCount c) (c .x)
 unfoldable pub logicalZs : Code → List Pauli
 logicalZs c = take (logicalCount c) (c .z)
 
--- RULES, "The record": a family of rows has its array, its places there, the key of its lines, and the byte that begins the key.
+-- RULES, "The record": a family of rows has its array, its places there, the key of its lines, and the byte that begins
+-- the key.
 abbrev pub rowsOf : Family → Code → List Pauli
 rowsOf Generator c = c .g
 rowsOf LogicalX c = c .x
@@ -82,8 +83,8 @@ keyByte Generator = code "g"
 keyByte LogicalX = code "x"
 keyByte LogicalZ = code "z"
 
--- RULES, "The sheet": lines count from 1, and are n, d, the generators, the X logicals, the Z logicals, w. So these lines of a
--- record's written sheet are that of its first generator, of its first X logical, and of w.
+-- RULES, "The sheet": lines count from 1, and are n, d, the generators, the X logicals, the Z logicals, w. So these
+-- lines of a record's written sheet are that of its first generator, of its first X logical, and of w.
 abbrev pub firstGeneratorAt : ℕ
 firstGeneratorAt = 3
 
@@ -142,7 +143,8 @@ isClaim n P = onQubits n P && hasSign Plus P
 unfoldable pub areRows : ℕ → ℕ → List Pauli → Bool
 areRows n m rows = allOf (isRow n) (take m rows) && allOf (samePauli identity) (drop m rows)
 
--- RULES, "The record": its limits. The numbers n, r and d are within their ranges, the rows are rows of n qubits, w has sign +.
+-- RULES, "The record": its limits. The numbers n, r and d are within their ranges, the rows are rows of n qubits, w has
+-- sign +.
 unfoldable pub withinLimits : Code → Bool
 withinLimits c =
     between 2 mostQubits (c .n) && between 1 (mostGenerators (c .n)) (c .r) && between 1 longestDistance (c .d)

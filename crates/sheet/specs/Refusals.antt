@@ -1,5 +1,4 @@
--- What each refusal is in 01's terms.
--- 01: "When an answer is an enum, a definition sets out this paper's number and values for each of its cases."
+-- What each refusal says: the number and the values of each case.
 use mathlib.Core.Bool.{Bool, cond}
 use mathlib.Core.Option.{Option, none, some}
 use Prim.Native.Nat.{ℕ}
@@ -7,10 +6,17 @@ use Rattle.sheet.specs.declared.ErrorPair.{ErrorPair}
 use Rattle.sheet.specs.declared.Family.{Family}
 use Rattle.sheet.specs.declared.Lines.{Lines}
 use Rattle.sheet.specs.declared.Refusal.{Refusal}
-use Rattle.sheet.specs.declared.Refusal.the-variants.{TooLong, Form, QubitCount, DistanceRange, GeneratorCount, GeneratorsAnticommute, MinusIdentity, DependentGenerator, LogicalAnticommutes, LogicalPairing, ClaimedWeight, ClaimedAnticommutes, ClaimedInGroup, DistanceRefuted, RecordLimits, Syndrome, ShortBuffer}
+use Rattle.sheet.specs.declared.Refusal.the-variants.{TooLong, Form, QubitCount, DistanceRange, GeneratorCount}
+use Rattle.sheet.specs.declared.Refusal.the-variants.{GeneratorsAnticommute, MinusIdentity, DependentGenerator}
+use Rattle.sheet.specs.declared.Refusal.the-variants.{LogicalAnticommutes, LogicalPairing, ClaimedWeight}
+use Rattle.sheet.specs.declared.Refusal.the-variants.{ClaimedAnticommutes, ClaimedInGroup, DistanceRefuted}
+use Rattle.sheet.specs.declared.Refusal.the-variants.{RecordLimits, Syndrome, ShortBuffer}
+use Rattle.sheet.specs.declared.RefusalValues.{RefusalValues}
+use Rattle.sheet.specs.declared.RowFamily.{RowFamily}
 use Rattle.sheet.specs.declared.Written.{Written}
 
--- What the table of 01 gives of a refusal: its number, the line named (0 for none), its family, its two errors.
+-- RULES, "Refusals": a refusal has a number and the line named, 0 for none. One about a row has the row's family
+-- besides, and 14 has two errors.
 pub record Values : Type 0 where
   pub number : ℕ
   pub line : ℕ
@@ -20,7 +26,6 @@ pub record Values : Type 0 where
 abbrev pub plain : ℕ → ℕ → Values
 plain number line = record { number = number; line = line; family = none; errors = none }
 
--- 01: "A refusal about a row carries its family beside the line: generator, X logical or Z logical."
 abbrev pub ofRow : ℕ → ℕ → Family → Values
 ofRow number line family = record { number = number; line = line; family = some family; errors = none }
 
@@ -43,6 +48,14 @@ values RecordLimits = plain 15 0
 values (Syndrome line) = plain 16 line
 values ShortBuffer = plain 17 0
 
+-- The values as a call answers them: all but the errors, which the case itself holds.
+abbrev pub rowFamily : Option Family → RowFamily
+rowFamily none = RowFamily.NoRow
+rowFamily (some family) = RowFamily.Row family
+
+abbrev pub answeredValues : Values → RefusalValues
+answeredValues v = record { number = v .number; line = v .line; family = rowFamily (v .family) }
+
 -- The refusal that an answer carries, where it is one.
 unfoldable pub linesRefusal : Lines → Option Refusal
 linesRefusal (Lines.Read used) = none
@@ -56,7 +69,7 @@ writtenRefusal (Written.Refused refusal) = some refusal
 unfoldable pub refuseIf : Bool → Refusal → Option Refusal
 refuseIf test refusal = cond test (some refusal) none
 
--- 01: "The first fault met is the answer."
+-- RULES, "Refusals": of several checks, the first fault is the answer.
 infixr 20 _then_
 unfoldable pub _then_ : Option Refusal → Option Refusal → Option Refusal
 none then next = next

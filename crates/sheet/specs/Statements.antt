@@ -11,7 +11,8 @@ use Rattle.pauli.specs.Product.{modulo4}
 use Rattle.sheet.specs.declared.Code.{Code}
 use Rattle.sheet.specs.declared.Refusal.{Refusal}
 use Rattle.sheet.specs.Reader.{SheetRead, got, readForm, readLines, linesReading, formReading, behind}
-use Rattle.sheet.specs.Record.{withinLimits, claimAt, generatorRoom, logicalRoom, mostQubits, longestInput, longestSheet}
+use Rattle.sheet.specs.Record.{generatorRoom, logicalRoom, mostQubits, longestInput, longestSheet}
+use Rattle.sheet.specs.Record.{withinLimits, claimAt}
 use Rattle.sheet.specs.Refusals.{values, linesRefusal, writtenRefusal}
 use Rattle.sheet.specs.Text.{After}
 use Rattle.sheet.specs.Writer.{sheetText, writeSheet}
@@ -34,14 +35,14 @@ phasesModulo4 c = record {
   w = modulo4 (c .w);
 }
 
--- RULES, "Guarantees": reading what was written of a record within limits gives that record, the line of w in its sheet, and what
--- stood behind the sheet.
+-- RULES, "The writer": reading what was written of a record within limits gives that record, the line of w in its
+-- sheet, and what stood behind the sheet.
 abbrev pub ReadAfterWrite : Type 0
 ReadAfterWrite =
     (c : Code) (rest : List ℕ) → Sized c → withinLimits c ≡ true → length (sheetText c ++ rest) ≤ longestInput
     → readLines (sheetText c ++ rest) ≡ got (record { code = phasesModulo4 c; claimAt = claimAt c }) rest
 
--- RULES, "Guarantees": writing what was read gives the bytes that were read.
+-- RULES, "The writer": writing what was read gives the bytes that were read.
 abbrev pub WriteAfterRead : Type 0
 WriteAfterRead =
     (s : List ℕ) (q : SheetRead) (rest : List ℕ) → readLines s ≡ got q rest → sheetText (q .code) ++ rest ≡ s
@@ -51,7 +52,8 @@ abbrev pub RestIsBehind : Type 0
 RestIsBehind =
     (s : List ℕ) (q : SheetRead) (rest : List ℕ) → readLines s ≡ got q rest → behind s (linesReading s .answer) ≡ rest
 
--- What is read is a record within limits, as a machine holds it, with phases 0 to 3; and w stands where its written sheet has it.
+-- What is read is a record within limits, as a machine holds it, with phases 0 to 3; and w stands where its written
+-- sheet has it.
 pub record ReadIsLawful (q : SheetRead) : Type 0 where
   pub sized : Sized (q .code)
   pub limits : withinLimits (q .code) ≡ true
@@ -71,8 +73,8 @@ pub record LongestSheet : Type 0 where
 -- ---- what a refusal leaves
 
 -- RULES, "Calls and buffers": where the answer of a call carries a refusal, the buffer is what it was.
-pub record RefusalLeaves {A : Type 0} (refusalOf : A → Option Refusal) (buffer : List ℕ) (after : After A) : Type 0 where
-  pub unchanged : (refusal : Refusal) → refusalOf (after .answer) ≡ some refusal → after .buffer ≡ buffer
+pub record RefusalLeaves {A : Type 0} (carried : A → Option Refusal) (buffer : List ℕ) (after : After A) : Type 0 where
+  pub unchanged : (refusal : Refusal) → carried (after .answer) ≡ some refusal → after .buffer ≡ buffer
 
 abbrev pub WriterRefusalsLeave : Type 0
 WriterRefusalsLeave = (c : Code) (buffer : List ℕ) → RefusalLeaves writtenRefusal buffer (writeSheet c buffer)
@@ -89,5 +91,5 @@ pub record SheetRefusalNumbers : Type 0 where
       → Among (1 ∷ 2 ∷ 3 ∷ 4 ∷ 5 ∷ []) refusal
   pub alone : (s : List ℕ) (refusal : Refusal) → linesRefusal (formReading s .answer) ≡ some refusal
       → Among (1 ∷ 2 ∷ 3 ∷ 4 ∷ 5 ∷ []) refusal
-  pub writer : (c : Code) (buffer : List ℕ) (refusal : Refusal) → writtenRefusal (writeSheet c buffer .answer) ≡ some refusal
-      → Among (15 ∷ 17 ∷ []) refusal
+  pub writer : (c : Code) (buffer : List ℕ) (refusal : Refusal)
+      → writtenRefusal (writeSheet c buffer .answer) ≡ some refusal → Among (15 ∷ 17 ∷ []) refusal

@@ -12,15 +12,14 @@ use Rattle.sheet.specs.declared.Refusal.{Refusal}
 use Rattle.sheet.specs.declared.Written.{Written}
 use Rattle.sheet.specs.Refusals.{refuseIf, _then_}
 
--- 01: "each closed by a line feed (byte 10)"
+-- RULES, "The sheet": a line is a key, a value and a line feed.
 unfoldable pub lineFeed : ℕ
 lineFeed = 10
 
--- A line `key=value`.
 unfoldable pub line : String → List ℕ → List ℕ
 line key value = bytes key ++ value ++ lineFeed ∷ []
 
--- 01: "numbers are in base ten", "with no leading zeros". The first argument bounds how many digits there are.
+-- RULES, "The writer": a number has no leading zeros. The first argument bounds how many digits it has.
 unfoldable pub digitsOf : ℕ → ℕ → List ℕ
 digitsOf zero m = []
 digitsOf (suc k) m =
@@ -34,26 +33,26 @@ pub record After (A : Type 0) : Type 0 where
   pub answer : A
   pub buffer : List ℕ
 
--- 01: "the bytes behind an answer stay."
+-- RULES, "Calls and buffers": the text is written from the buffer's start on, and the bytes behind it stay.
 unfoldable pub laid : List ℕ → List ℕ → List ℕ
 laid text buffer = text ++ drop (length text) buffer
 
--- 01: "Every refusal leaves them untouched, except that a report writes refusals 1 to 14 and 16 as text."
+-- RULES, "Calls and buffers": a refusal leaves the buffer as it was.
 unfoldable pub untouched : {A : Type 0} → A → List ℕ → After A
 untouched answer buffer = record { answer = answer; buffer = buffer }
 
--- A call that is lent a buffer. The first fault of its checks is its answer, and the buffer stays; where there is none, the call has its own
--- answer.
+-- A call that is lent a buffer. The first fault of its checks is its answer, and the buffer stays; where there is none,
+-- the call has its own answer.
 unfoldable pub guarded : {A : Type 0} → (Refusal → A) → Option Refusal → List ℕ → After A → After A
 guarded refused none buffer after = after
 guarded refused (some refusal) buffer after = untouched (refused refusal) buffer
 
--- 17: the buffer is "shorter than the answer", which has m bytes.
+-- RULES, "Refusals": 17, where the buffer is shorter than the answer, which has m bytes.
 unfoldable pub roomFault : ℕ → List ℕ → Option Refusal
 roomFault m buffer = refuseIf (ltb (length buffer) m) Refusal.ShortBuffer
 
--- A call whose answer is a text, with 17 behind its other checks.
--- 01: "A report, the writer and a tidying return the count of bytes written; the bytes behind an answer stay."
+-- RULES, "Calls and buffers": a call that writes a text tries 17 behind its other checks, and answers with the count of
+-- bytes.
 unfoldable pub written : Option Refusal → List ℕ → List ℕ → After Written
 written fault text buffer =
     guarded Written.Refused (fault then roomFault (length text) buffer) buffer

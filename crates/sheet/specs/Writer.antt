@@ -12,7 +12,7 @@ use Rattle.sheet.specs.Record.{generators, logicalXs, logicalZs, limitsF
 unfoldable pub rowLines : String → ℕ → List Pauli → List ℕ
 rowLines key n rows = flatMap (λ P. line key (rowText n P)) rows
 
--- 01: "The writer gives a record's sheet in the form above."
+-- RULES, "The writer": a record's sheet has the lines that are read, in their order.
 unfoldable pub sheetText : Code → List ℕ
 sheetText c =
     line "n=" (decimal (c .n)) ++ line "d=" (decimal (c .d)) ++ rowLines "g=" (c .n) (generators c)

@@ -5,27 +5,30 @@ ghost use mathlib.Core.Path.{_≡_};
 ghost use Prim.Native.Nat.{_≤_};
 ghost use lib.ListN.{getD};
 ghost use Rattle.pauli.specs.Product.{identity, samePauli};
-ghost use Rattle.sheet.specs.Refusals.{values};
+ghost use Rattle.sheet.specs.Refusals.{plain, ofRow, values, answeredValues};
 ghost use Rattle.sheet.specs.Record.{mostQubits, pairCount, mostGenerators, generatorsAt};
 ghost use Rattle.sheet.specs.Record.{rowsOf, roomOf, keyByte, emptyCode};
 ghost use Rattle.sheet.specs.Record.{between, onQubits, isRow, isClaim, areRows, withinLimits};
 
-// The room of a record's arrays: for the generators, and for the logicals of each kind.
+// How many generators a record has room for.
 pub const GENERATOR_ROOM: usize = 32;
 
+// How many logicals of each kind it has room for.
 pub const LOGICAL_ROOM: usize = 24;
 
-// The most qubits and the longest distance that a sheet may have.
+// The most qubits of a code.
 pub const MOST_QUBITS: usize = 24;
 
+// The longest distance that may be claimed.
 pub const MOST_DISTANCE: usize = 7;
 
-// The most bytes that an input has, and a sheet.
+// The most bytes of an input, a sheet and what stands behind it.
 pub const LONGEST_INPUT: usize = 4096;
 
+// The most bytes of a sheet.
 pub const LONGEST_SHEET: usize = 1352;
 
-// The line of the first generator.
+// The line of a sheet on which the first generator stands.
 pub const FIRST_GENERATOR_AT: usize = 3;
 
 // How many pairs of logicals a code of n qubits and r generators has.
@@ -42,8 +45,9 @@ pub fn most_generators(n: usize) -> usize
     if n > 0 { n - 1 } else { 0 }
 }
 
-// The code that a sheet describes: n qubits, r generators, claimed distance d. The first r rows of g are the generators,
-// the first n - r of x and of z the logical operators, and w is the claimed minimum-weight logical. Unused rows are +I.
+// The code that a sheet describes: n qubits, r generators, claimed distance d. The first r rows of g are the
+// generators, the first rows of x and of z the pairs of logical operators, and w is the claimed minimum-weight logical.
+// Unused rows are +I.
 pub struct Code {
     pub n: usize,
     pub r: usize,
@@ -191,7 +195,8 @@ fn is_identity(p: Pauli) -> bool
     p.p % 4 == 0 && (p.a == 0 && p.b == 0)
 }
 
-// The three kinds of rows, each with its array in the record and its key in the sheet. A refusal about a row names its kind.
+// The three kinds of rows, each with its array in the record and its key in the sheet. A refusal about a row names its
+// kind.
 pub enum Family {
     Generator,
     LogicalX,
@@ -229,7 +234,7 @@ pub struct ErrorPair {
     pub f: Pauli,
 }
 
-// Document 01's refusals in the order of their numbers, 1 to 17. A case that names a line of the sheet holds it, and one about a
+// The refusals in the order of their numbers, 1 to 17. A case that names a line of the sheet holds it, and one about a
 // row its family too.
 pub enum Refusal {
     // 1: the whole input has more than 4,096 bytes.
@@ -269,53 +274,65 @@ pub enum Refusal {
 }
 
 impl Refusal {
-    // Document 01's number.
-    pub fn number(self) -> u32
-        ensures { λ r. ⌜ r ≡ (values self) .number ⌝ }
+    // What it says, case by case.
+    pub fn values(self) -> RefusalValues
+        ensures { λ r. ⌜ r ≡ answeredValues (values self) ⌝ }
     {
         match self {
-            Refusal::TooLong => 1,
-            Refusal::Form(_) => 2,
-            Refusal::QubitCount(_) => 3,
-            Refusal::DistanceRange(_) => 4,
-            Refusal::GeneratorCount(_) => 5,
-            Refusal::GeneratorsAnticommute(_, _) => 6,
-            Refusal::MinusIdentity(_, _) => 7,
-            Refusal::DependentGenerator(_, _) => 8,
-            Refusal::LogicalAnticommutes(_, _) => 9,
-            Refusal::LogicalPairing(_, _) => 10,
-            Refusal::ClaimedWeight(_) => 11,
-            Refusal::ClaimedAnticommutes(_) => 12,
-            Refusal::ClaimedInGroup(_) => 13,
-            Refusal::DistanceRefuted(_, _) => 14,
-            Refusal::RecordLimits => 15,
-            Refusal::Syndrome(_) => 16,
-            Refusal::ShortBuffer => 17,
+            Refusal::TooLong => RefusalValues::plain(1, 0),
+            Refusal::Form(line) => RefusalValues::plain(2, line),
+            Refusal::QubitCount(line) => RefusalValues::plain(3, line),
+            Refusal::DistanceRange(line) => RefusalValues::plain(4, line),
+            Refusal::GeneratorCount(line) => RefusalValues::plain(5, line),
+            Refusal::GeneratorsAnticommute(line, family) => RefusalValues::of_row(6, line, family),
+            Refusal::MinusIdentity(line, family) => RefusalValues::of_row(7, line, family),
+            Refusal::DependentGenerator(line, family) => RefusalValues::of_row(8, line, family),
+            Refusal::LogicalAnticommutes(line, family) => RefusalValues::of_row(9, line, family),
+            Refusal::LogicalPairing(line, family) => RefusalValues::of_row(10, line, family),
+            Refusal::ClaimedWeight(line) => RefusalValues::plain(11, line),
+            Refusal::ClaimedAnticommutes(line) => RefusalValues::plain(12, line),
+            Refusal::ClaimedInGroup(line) => RefusalValues::plain(13, line),
+            Refusal::DistanceRefuted(line, _) => RefusalValues::plain(14, line),
+            Refusal::RecordLimits => RefusalValues::plain(15, 0),
+            Refusal::Syndrome(line) => RefusalValues::plain(16, line),
+            Refusal::ShortBuffer => RefusalValues::plain(17, 0),
+        }
+    }
+}
+
+// The kind of the row that a refusal is about, where it is about one.
+pub enum RowFamily {
+    Row(Family),
+    NoRow,
+}
+
+// What a refusal says: its number, the line named, 0 for none, and the kind of its row.
+pub struct RefusalValues {
+    pub number: u32,
+    pub line: usize,
+    pub family: RowFamily,
+}
+
+impl RefusalValues {
+    // Of a refusal that is about no row.
+    fn plain(number: u32, line: usize) -> RefusalValues
+        ensures { λ r. ⌜ r ≡ answeredValues (plain number line) ⌝ }
+    {
+        RefusalValues {
+            number,
+            line,
+            family: RowFamily::NoRow,
         }
     }
 
-    // The line named, 0 for none.
-    pub fn line(self) -> usize
-        ensures { λ r. ⌜ r ≡ (values self) .line ⌝ }
+    // Of one about a row of a family.
+    fn of_row(number: u32, line: usize, family: Family) -> RefusalValues
+        ensures { λ r. ⌜ r ≡ answeredValues (ofRow number line family) ⌝ }
     {
-        match self {
-            Refusal::TooLong => 0,
-            Refusal::Form(line) => line,
-            Refusal::QubitCount(line) => line,
-            Refusal::DistanceRange(line) => line,
-            Refusal::GeneratorCount(line) => line,
-            Refusal::GeneratorsAnticommute(line, _) => line,
-            Refusal::MinusIdentity(line, _) => line,
-            Refusal::DependentGenerator(line, _) => line,
-            Refusal::LogicalAnticommutes(line, _) => line,
-            Refusal::LogicalPairing(line, _) => line,
-            Refusal::ClaimedWeight(line) => line,
-            Refusal::ClaimedAnticommutes(line) => line,
-            Refusal::ClaimedInGroup(line) => line,
-            Refusal::DistanceRefuted(line, _) => line,
-            Refusal::RecordLimits => 0,
-            Refusal::Syndrome(line) => line,
-            Refusal::ShortBuffer => 0,
+        RefusalValues {
+            number,
+            line,
+            family: RowFamily::Row(family),
         }
     }
 }

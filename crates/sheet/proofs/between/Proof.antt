@@ -1,4 +1,4 @@
--- The two bounds are tried in turn.
+-- Whether a number is between two bounds: they are tried in turn.
 use borrow.Author.Tests.{le-leb, lt-leb}
 use Rattle.sheet.specs.Record.{between}
 use Rattle.sheet.proofs.RowLimits.{and-true-l, and-false-l}

@@ -1,4 +1,4 @@
--- The masks are tried first, then the sign.
+-- Whether a Pauli may be w: the masks are tried first, then the sign.
 use mathlib.Core.Path.{sym, _∙_}
 use Rattle.sheet.specs.Record.{isClaim}
 use Rattle.sheet.proofs.RowLimits.{and-true-l, and-false-l}

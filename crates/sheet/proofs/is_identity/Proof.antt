@@ -1,4 +1,4 @@
--- The phase and the masks are tried in turn.
+-- Whether a Pauli is +I: the phase and the masks are tried in turn.
 use mathlib.Core.Path.{sym, _∙_}
 use Prim.Native.Nat.{_%_}
 use borrow.Author.Tests.{eq-eqb, ne-eqb}

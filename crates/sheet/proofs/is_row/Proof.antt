@@ -1,4 +1,4 @@
--- The masks are tried first, then the phase.
+-- Whether a Pauli is a row of n qubits: the masks are tried first, then the phase.
 use mathlib.Core.Path.{sym, _∙_}
 use Rattle.sheet.specs.Record.{isRow}
 use Rattle.sheet.proofs.RowLimits.{and-true-l, and-false-l}
@@ -8,7 +8,8 @@ use Rattle.sheet.proofs.is_row.Tie as tie
 
 returns : tie.Need-returns
 unfolding isRow
-returns c = c .is-signed-row .ensures ∙ and-true-l _ (sym (c .before .before .on-qubits .ensures) ∙ c .before .if1 .taken)
+returns c =
+    c .is-signed-row .ensures ∙ and-true-l _ (sym (c .before .before .on-qubits .ensures) ∙ c .before .if1 .taken)
 
 returns-2 : tie.Need-returns-2
 unfolding isRow

@@ -1,4 +1,4 @@
--- One less than the qubits, which is 0 where there are none.
+-- The most generators: one less than the qubits, which is 0 where there are none.
 use mathlib.Core.Path.{refl}
 use native.Mathlib.Omega.{arith}
 use Rattle.sheet.specs.Record.{mostGenerators}

@@ -1,4 +1,4 @@
--- The difference, which is 0 where r is above n.
+-- The count of pairs: the difference, which is 0 where r is above n.
 use mathlib.Core.Path.{refl}
 use native.Mathlib.Omega.{arith}
 use Rattle.sheet.specs.Record.{pairCount}

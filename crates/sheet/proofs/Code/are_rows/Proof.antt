@@ -1,4 +1,5 @@
--- At each place what is asked of the rows is what is asked of those from there on.
+-- Whether the rows of a family are lawful: at each place, what is asked of all rows is what is asked of those from there
+-- on.
 use mathlib.Core.Bool.{Bool, _&&_}
 use mathlib.Core.List.{List}
 use mathlib.Core.Logic.{⊎-elim}
@@ -38,13 +39,18 @@ abbrev place : tie.After-row Inv-loop μ-loop → ℕ
 place c = c .before .before .loop .place
 
 abbrev Left : tie.After-row Inv-loop μ-loop → Bool → Type 0
-Left c test = areRows (n c) (count c) (rows c) ≡ (test && areRows (n c) (count c - (place c + 1)) (drop (place c + 1) (rows c)))
+Left c test =
+    areRows (n c) (count c) (rows c) ≡ (test && areRows (n c) (count c - (place c + 1)) (drop (place c + 1) (rows c)))
 
-left-used : (c : tie.After-row Inv-loop μ-loop) {test : Bool} → place c < count c → isRow (n c) (c .row .result) ≡ test → Left c test
-left-used c few test = c .before .before .loop .inv .2 ∙ used-at _ _ (place c) _ (omega arith) (c .row .ensures) few test
+left-used : (c : tie.After-row Inv-loop μ-loop) {test : Bool} → place c < count c → isRow (n c) (c .row .result) ≡ test
+    → Left c test
+left-used c few test =
+    c .before .before .loop .inv .2 ∙ used-at _ _ (place c) _ (omega arith) (c .row .ensures) few test
 
-left-unused : (c : tie.After-row Inv-loop μ-loop) {test : Bool} → count c ≤ place c → samePauli identity (c .row .result) ≡ test → Left c test
-left-unused c many test = c .before .before .loop .inv .2 ∙ unused-at _ _ (place c) _ (omega arith) (c .row .ensures) many test
+left-unused : (c : tie.After-row Inv-loop μ-loop) {test : Bool} → count c ≤ place c
+    → samePauli identity (c .row .result) ≡ test → Left c test
+left-unused c many test =
+    c .before .before .loop .inv .2 ∙ unused-at _ _ (place c) _ (omega arith) (c .row .ensures) many test
 
 -- ---- the needs
 
@@ -58,10 +64,14 @@ loop-holds c =
     )
 
 returns : tie.Need-returns Inv-loop μ-loop
-returns c = sym (left-used (c .before .before .before) (c .before .before .if1 .taken) (failed (c .before .is-row .ensures) (c .if2 .taken)))
+returns c =
+    let told = failed (c .before .is-row .ensures) (c .if2 .taken) in
+    sym (left-used (c .before .before .before) (c .before .before .if1 .taken) told)
 
 returns-2 : tie.Need-returns-2 Inv-loop μ-loop
-returns-2 c = sym (left-unused (c .before .before .before) (c .before .before .if1 .left) (failed (c .before .is-identity .ensures) (c .if3 .taken)))
+returns-2 c =
+    let told = failed (c .before .is-identity .ensures) (c .if3 .taken) in
+    sym (left-unused (c .before .before .before) (c .before .before .if1 .left) told)
 
 loop-again : tie.Need-loop-again Inv-loop μ-loop
 loop-again c = (

@@ -1,7 +1,7 @@
--- An array of one value is that value, written out as often as the array has places.
+-- The empty record: an array of one value is that value, written out as often as the array has places.
 use mathlib.Core.Path.{ap}
 use lib.ListN.{replicate}
-use Rattle.sheet.specs.Record.{emptyCode}
+use Rattle.sheet.specs.Record.{generatorRoom, logicalRoom, emptyCode}
 use borrow.Author.Needs.{needs}
 use Rattle.sheet.proofs.Code.empty.Statement.{statement}
 use Rattle.sheet.proofs.Code.empty.Tie as tie
@@ -9,7 +9,15 @@ use Rattle.sheet.proofs.Code.empty.Tie as tie
 returns : tie.Need-returns
 unfolding emptyCode
 returns c =
-    ap (λ one. record { n = 0; r = 0; d = 0; g = replicate 32 one; x = replicate 24 one; z = replicate 24 one; w = one })
+    ap (λ one. record {
+      n = 0;
+      r = 0;
+      d = 0;
+      g = replicate generatorRoom one;
+      x = replicate logicalRoom one;
+      z = replicate logicalRoom one;
+      w = one;
+    })
     (c .identity .ensures)
 
 pub empty-spec : {M : Type 1} → statement M

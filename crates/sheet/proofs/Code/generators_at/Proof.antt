@@ -1,4 +1,4 @@
--- The generators of every record begin at one line.
+-- The line of the first generator, which is one line for every record.
 use mathlib.Core.Path.{refl}
 use Rattle.sheet.specs.Record.{generatorsAt}
 use Rattle.sheet.proofs.Code.generators_at.Statement.{statement}

@@ -1,4 +1,4 @@
--- The family decides the array; behind its end there is no row.
+-- The row at a place: the family decides the array, and behind its end there is no row.
 use mathlib.Core.Logic.{⊎-elim}
 use mathlib.Core.Path.{_≡_, ap, sym, _∙_}
 use Prim.Native.Nat.{ℕ, _≤_}
@@ -17,8 +17,8 @@ of-family : (code : Code) (place : ℕ) {family f : Family} → family ≡ f
     → getD (rowsOf f code) place identity ≡ getD (rowsOf family code) place identity
 of-family code place e = ap (λ f. getD (rowsOf f code) place identity) (sym e)
 
-behind-end : (code : Code) {family f : Family} {room place : ℕ} → family ≡ f → length (rowsOf f code) ≡ room → room ≤ place
-    → identity ≡ getD (rowsOf family code) place identity
+behind-end : (code : Code) {family f : Family} {room place : ℕ} → family ≡ f → length (rowsOf f code) ≡ room
+    → room ≤ place → identity ≡ getD (rowsOf family code) place identity
 behind-end code {f = f} {place = place} e sized h =
     sym (List·getD-eq-default (rowsOf f code) identity (omega arith)) ∙ of-family code place e
 
@@ -37,7 +37,8 @@ returns-4 c =
     let sized = sized-of (start .args .t1) (start .good .0) in
     c .identity .ensures
     ∙ ⊎-elim (λ w. behind-end _ (w .1 .given .1) (sized .roomG) (w .2 .left))
-    (⊎-elim (λ w. behind-end _ (w .1 .given .1) (sized .roomX) (w .2 .left)) (λ w. behind-end _ (w .1 .given .1) (sized .roomZ) (w .2 .left)))
+    (⊎-elim (λ w. behind-end _ (w .1 .given .1) (sized .roomX) (w .2 .left))
+    (λ w. behind-end _ (w .1 .given .1) (sized .roomZ) (w .2 .left)))
     (c .before .match .came)
 
 pub row-spec : {M : Type 1} → statement M

@@ -1,5 +1,6 @@
--- Each limit is tried in turn; the first that is broken decides. Behind each that holds, `code..` is the record and `held..` what
--- the test says; `told..` is what a test says of a limit that is a count of its own.
+-- Whether a record is within its limits: each limit is tried in turn, and the first that is broken decides. Behind each
+-- that holds, `code..` is the record and `held..` what the test says; `told..` puts the count that a test was given in
+-- the words of the definitions.
 use mathlib.Core.Bool.{true}
 use mathlib.Core.Path.{_≡_, ap, _∙_}
 use Prim.Native.Nat.{_≤_}

@@ -1,0 +1,53 @@
+-- What a call answers whose answer is a text: the fault of its checks, or 17, or the text and its length. Each outcome
+-- is read off `written`, once for every such call.
+use mathlib.Core.Bool.{Bool, true, false, not}
+use mathlib.Core.List.{List}
+use mathlib.Core.Option.{Option, none, some}
+use mathlib.Core.Path.{_≡_, ap}
+use Prim.Native.Nat.{ℕ, _≤_, _<_}
+use borrow.Author.Tests.{lt-ltb, le-ltb}
+use lib.ListN.{length}
+use Rattle.sheet.specs.declared.Code.{Code}
+use Rattle.sheet.specs.declared.Refusal.{Refusal}
+use Rattle.sheet.specs.declared.Written.{Written}
+use Rattle.sheet.specs.Record.{withinLimits, limitsFault}
+use Rattle.sheet.specs.Refusals.{refuseIf, _then_}
+use Rattle.sheet.specs.Text.{laid, untouched, guarded, roomFault, written}
+
+-- ---- one check
+
+module _ {test : Bool} (refusal : Refusal) where
+  pub refuseIf-true : test ≡ true → refuseIf test refusal ≡ some refusal
+  unfolding refuseIf
+  refuseIf-true h = ap (λ (t : Bool). refuseIf t refusal) h
+
+  pub refuseIf-false : test ≡ false → refuseIf test refusal ≡ none
+  unfolding refuseIf
+  refuseIf-false h = ap (λ (t : Bool). refuseIf t refusal) h
+
+module _ (c : Code) where
+  pub limits-broken : withinLimits c ≡ false → limitsFault c ≡ some Refusal.RecordLimits
+  unfolding limitsFault
+  limits-broken h = refuseIf-true _ (ap not h)
+
+  pub limits-kept : withinLimits c ≡ true → limitsFault c ≡ none
+  unfolding limitsFault
+  limits-kept h = refuseIf-false _ (ap not h)
+
+-- ---- the call
+
+module _ {fault : Option Refusal} (text buffer : List ℕ) where
+  pub written-fault : {refusal : Refusal} → fault ≡ some refusal
+      → written fault text buffer ≡ untouched (Written.Refused refusal) buffer
+  unfolding written guarded _then_
+  written-fault e = rw e
+
+  pub written-short : fault ≡ none → length buffer < length text
+      → written fault text buffer ≡ untouched (Written.Refused Refusal.ShortBuffer) buffer
+  unfolding written guarded _then_ roomFault
+  written-short e h = rw (e, refuseIf-true _ (lt-ltb (length buffer) (length text) h))
+
+  pub written-whole : fault ≡ none → length text ≤ length buffer
+      → written fault text buffer ≡ record { answer = Written.Count (length text); buffer = laid text buffer }
+  unfolding written guarded _then_ roomFault
+  written-whole e h = rw (e, refuseIf-false _ (le-ltb (length buffer) (length text) h))
