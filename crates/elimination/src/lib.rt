@@ -179,7 +179,8 @@ impl ReducedRows {
     fn insert(self, q: Pauli) -> ReducedRows
         requires { ⌜ IsReducedOf self ⌝ }
         requires { ⌜ self .count < generatorRoom ⌝ }
-        ensures { λ r. ⌜ r ≡ reducedOf (self .n) (insertByPivot (self .n) q (map (cleared (self .n) q) (rowsIn self))) ⌝ }
+        ensures { λ r.
+            ⌜ r ≡ reducedOf (self .n) (insertByPivot (self .n) q (map (cleared (self .n) q) (rowsIn self))) ⌝ }
     {
         let n = self.n;
         let count = self.count;
