@@ -1,5 +1,4 @@
-pub mod Lines
-pub mod Values
+pub mod Reached
 pub mod Progress
 pub mod RowLines
 pub mod Sheets

@@ -10,85 +10,87 @@ use Rattle.sheet.specs.declared.Code.{Code}
 use Rattle.sheet.specs.declared.Lines.{Lines}
 use Rattle.sheet.specs.declared.LinesReading.{LinesReading}
 use Rattle.sheet.specs.declared.Refusal.{Refusal}
-use Rattle.sheet.specs.Reader.{Parsed, Reader, got, stop, done, continue, nothingBehind, answered}
-use Rattle.sheet.specs.Reader.{qubitLine, distanceLine, allGeneratorLines, logicalLines, claimLine, linesAfter, sheetLines}
-use Rattle.sheet.specs.Record.{filled, codeOf, generatorsAt, claimAt}
-use Rattle.reader.specs.Answers.{Reads, ReadsSheet, emptyBeside, beside, mapped, countedRows}
+use Rattle.sheet.specs.Reader.{Parsed, Reader, SheetRead, got, stop, done, continue, nothingBehind, answered}
+use Rattle.sheet.specs.Reader.{qubitLine, distanceLine, generatorLines, logicalLines, claimLine, linesAfter, sheetLines}
+use Rattle.sheet.specs.Record.{generatorRoom, logicalRoom, pairCount, filled, codeOf, firstGeneratorAt}
+use Rattle.sheet.specs.Record.{logicalCount, generatorsAt, logicalsAt, claimAt}
+use Rattle.sheet.specs.Statements.{ReadIsLawful}
+use Rattle.sheet.proofs.Limits.{limits}
 use Rattle.sheet.proofs.Parts.{tail-of}
-use Rattle.reader.proofs.Lines.{reads-refused, reads-read, was-read, was-refused, then-got, then-stop}
+use Rattle.lines.proofs.Reading.{bytes-used, then-got, then-stop}
+use Rattle.reader.specs.Answers.{Reads, ReadsSheet, emptyBeside, beside, readIn, mapped, countedRows}
+use Rattle.reader.proofs.Reached.{reads-refused, reads-read, was-read, was-refused}
+use Rattle.reader.proofs.RowLines.{mapped-stop, mapped-got}
 
--- ---- what was mapped
+-- ---- the lines behind the g lines, with k pairs of logicals
 
-module _ {A B : Type 0} (f : A → B) where
-  pub mapped-stop : {refusal : Refusal} (p : Parsed A) → mapped f p ≡ stop refusal → p ≡ stop refusal
-  unfolding mapped continue done
-  mapped-stop (got a s) e = absurd (let z : _≡_ {A = ℕ} 0 1 = cc in omega arith)
-  mapped-stop (stop other) e = cc
-
-  pub mapped-got : {b : B} {rest : List ℕ} (p : Parsed A) → mapped f p ≡ got b rest → (a : A) × (p ≡ got a rest) × (f a ≡ b)
-  unfolding mapped continue done
-  mapped-got (got a s) e = (a, cc, cc)
-  mapped-got (stop other) e = absurd (let z : _≡_ {A = ℕ} 0 1 = cc in omega arith)
-
--- ---- the lines behind the g lines, of which there are r
-
-module _ (n d : ℕ) (gs : List Pauli) (r : ℕ) (counted : length gs ≡ r) (s : List ℕ) where
+module _ (n d at : ℕ) (gs : List Pauli) (k : ℕ) (paired : pairCount n (length gs) ≡ k) (s : List ℕ) where
   -- the readers that follow x, and z
-  abbrev with-w : List Pauli → List Pauli → Reader Code
-  with-w xs zs t = continue (claimLine n (3 + r + 2 * (n - r)) t) (λ w. done (codeOf n d gs xs zs w))
+  abbrev with-w : List Pauli → List Pauli → Reader SheetRead
+  with-w xs zs t = continue (claimLine n (at + 2 * k) t) (λ w. done (record { code = codeOf n d gs xs zs w; claimAt = at + 2 * k }))
 
-  abbrev with-z : List Pauli → Reader Code
-  with-z xs t = continue (logicalLines (n - r) "z=" n (3 + r + (n - r)) t) (with-w xs)
+  abbrev with-z : List Pauli → Reader SheetRead
+  with-z xs t = continue (logicalLines k "z=" n (at + k) t) (with-w xs)
 
-  in-order : linesAfter n d gs s ≡ continue (logicalLines (n - r) "x=" n (3 + r) s) with-z
-  unfolding linesAfter generatorsAt
+  in-order : linesAfter n d at gs s ≡ continue (logicalLines k "x=" n at s) with-z
+  unfolding linesAfter
   in-order =
       ap
       (λ m.
-      continue (logicalLines (n - m) "x=" n (3 + m) s) (λ xs t.
-      continue (logicalLines (n - m) "z=" n (3 + m + (n - m)) t) (λ zs u.
-      continue (claimLine n (3 + m + 2 * (n - m)) u) (λ w. done (codeOf n d gs xs zs w)))))
-      counted
+      continue (logicalLines m "x=" n at s) (λ xs t.
+      continue (logicalLines m "z=" n (at + m) t) (λ zs u.
+      continue (claimLine n (at + 2 * m) u) (λ w. done (record { code = codeOf n d gs xs zs w; claimAt = at + 2 * m })))))
+      paired
 
-  pub x-refused : {refusal : Refusal} → mapped (filled 24) (logicalLines (n - r) "x=" n (3 + r) s) ≡ stop refusal
-      → linesAfter n d gs s ≡ stop refusal
-  x-refused e = in-order ∙ then-stop with-z (mapped-stop (filled 24) _ e)
+  pub x-refused : {refusal : Refusal} → mapped (filled logicalRoom) (logicalLines k "x=" n at s) ≡ stop refusal
+      → linesAfter n d at gs s ≡ stop refusal
+  x-refused e = in-order ∙ then-stop with-z (mapped-stop (filled logicalRoom) _ e)
 
-  module _ {x-rows : List Pauli} {t : List ℕ} (x-read : mapped (filled 24) (logicalLines (n - r) "x=" n (3 + r) s) ≡ got x-rows t) where
-    abbrev the-xs : (xs : List Pauli) × (logicalLines (n - r) "x=" n (3 + r) s ≡ got xs t) × (filled 24 xs ≡ x-rows)
-    the-xs = mapped-got (filled 24) _ x-read
+  module _ {x-rows : List Pauli} {t : List ℕ} (x-read : mapped (filled logicalRoom) (logicalLines k "x=" n at s) ≡ got x-rows t) where
+    abbrev the-xs : (xs : List Pauli) × (logicalLines k "x=" n at s ≡ got xs t) × (filled logicalRoom xs ≡ x-rows)
+    the-xs = mapped-got (filled logicalRoom) _ x-read
 
-    to-z : linesAfter n d gs s ≡ with-z (the-xs .0) t
+    to-z : linesAfter n d at gs s ≡ with-z (the-xs .0) t
     to-z = in-order ∙ then-got with-z (the-xs .1)
 
-    pub z-refused : {refusal : Refusal} → mapped (filled 24) (logicalLines (n - r) "z=" n (3 + r + (n - r)) t) ≡ stop refusal
-        → linesAfter n d gs s ≡ stop refusal
-    z-refused e = to-z ∙ then-stop (with-w (the-xs .0)) (mapped-stop (filled 24) _ e)
+    pub z-refused : {refusal : Refusal} → mapped (filled logicalRoom) (logicalLines k "z=" n (at + k) t) ≡ stop refusal
+        → linesAfter n d at gs s ≡ stop refusal
+    z-refused e = to-z ∙ then-stop (with-w (the-xs .0)) (mapped-stop (filled logicalRoom) _ e)
 
-    module _ {z-rows : List Pauli} {u : List ℕ} (z-read : mapped (filled 24) (logicalLines (n - r) "z=" n (3 + r + (n - r)) t) ≡ got z-rows u) where
-      abbrev the-zs : (zs : List Pauli) × (logicalLines (n - r) "z=" n (3 + r + (n - r)) t ≡ got zs u) × (filled 24 zs ≡ z-rows)
-      the-zs = mapped-got (filled 24) _ z-read
+    module _ {z-rows : List Pauli} {u : List ℕ} (z-read : mapped (filled logicalRoom) (logicalLines k "z=" n (at + k) t) ≡ got z-rows u) where
+      abbrev the-zs : (zs : List Pauli) × (logicalLines k "z=" n (at + k) t ≡ got zs u) × (filled logicalRoom zs ≡ z-rows)
+      the-zs = mapped-got (filled logicalRoom) _ z-read
 
-      to-w : linesAfter n d gs s ≡ with-w (the-xs .0) (the-zs .0) u
+      abbrev sheet-of : Pauli → Reader SheetRead
+      sheet-of w = done (record { code = codeOf n d gs (the-xs .0) (the-zs .0) w; claimAt = at + 2 * k })
+
+      to-w : linesAfter n d at gs s ≡ with-w (the-xs .0) (the-zs .0) u
       to-w = to-z ∙ then-got (with-w (the-xs .0)) (the-zs .1)
 
-      pub w-refused : {refusal : Refusal} → claimLine n (3 + r + 2 * (n - r)) u ≡ stop refusal → linesAfter n d gs s ≡ stop refusal
-      w-refused e = to-w ∙ then-stop (λ w. done (codeOf n d gs (the-xs .0) (the-zs .0) w)) e
+      pub w-refused : {refusal : Refusal} → claimLine n (at + 2 * k) u ≡ stop refusal → linesAfter n d at gs s ≡ stop refusal
+      w-refused e = to-w ∙ then-stop sheet-of e
 
-      pub w-read : {g-rows : List Pauli} {w : Pauli} {v : List ℕ} → filled 32 gs ≡ g-rows → claimLine n (3 + r + 2 * (n - r)) u ≡ got w v
-          → linesAfter n d gs s ≡ got (record { n = n; r = r; d = d; g = g-rows; x = x-rows; z = z-rows; w = w }) v
+      pub w-read : {r : ℕ} {g-rows : List Pauli} {w : Pauli} {v : List ℕ} → countedRows gs ≡ (r, g-rows) → claimLine n (at + 2 * k) u ≡ got w v
+          → linesAfter n d at gs s
+          ≡ got (record { code = record { n = n; r = r; d = d; g = g-rows; x = x-rows; z = z-rows; w = w }; claimAt = at + 2 * k }) v
       unfolding done codeOf
       w-read {w = w} {v = v} held e =
-          to-w ∙ then-got (λ w. done (codeOf n d gs (the-xs .0) (the-zs .0) w)) e
-          ∙ (λ i. got (record { n = n; r = counted i; d = d; g = held i; x = the-xs .2 i; z = the-zs .2 i; w = w }) v)
+          to-w ∙ then-got sheet-of e
+          ∙ (λ i.
+          got
+          (record {
+            code = record { n = n; r = held i .0; d = d; g = held i .1; x = the-xs .2 i; z = the-zs .2 i; w = w };
+            claimAt = at + 2 * k;
+          })
+          v)
 
 -- ---- all lines
 
 module _ (s : List ℕ) where
-  abbrev with-g : ℕ → ℕ → Reader Code
-  with-g n d t = continue (allGeneratorLines n t) (linesAfter n d)
+  abbrev with-g : ℕ → ℕ → Reader SheetRead
+  with-g n d t = continue (generatorLines n firstGeneratorAt t) (λ gs. linesAfter n d (firstGeneratorAt + length gs) gs)
 
-  abbrev with-d : ℕ → Reader Code
+  abbrev with-d : ℕ → Reader SheetRead
   with-d n t = continue (distanceLine t) (with-g n)
 
   pub n-refused : {refusal : Refusal} → qubitLine s ≡ stop refusal → sheetLines s ≡ stop refusal
@@ -107,81 +109,97 @@ module _ (s : List ℕ) where
       to-g : sheetLines s ≡ with-g n d u
       to-g = to-d ∙ then-got (with-g n) d-read
 
-      pub g-refused : {refusal : Refusal} → mapped countedRows (allGeneratorLines n u) ≡ stop refusal → sheetLines s ≡ stop refusal
-      g-refused e = to-g ∙ then-stop (linesAfter n d) (mapped-stop countedRows _ e)
+      pub g-refused : {refusal : Refusal} → mapped countedRows (generatorLines n firstGeneratorAt u) ≡ stop refusal → sheetLines s ≡ stop refusal
+      g-refused e = to-g ∙ then-stop (λ gs. linesAfter n d (firstGeneratorAt + length gs) gs) (mapped-stop countedRows _ e)
 
-      pub g-read : {held : ℕ × List Pauli} {v : List ℕ} → mapped countedRows (allGeneratorLines n u) ≡ got held v
-          → (gs : List Pauli) × (countedRows gs ≡ held) × (sheetLines s ≡ linesAfter n d gs v)
-      g-read e =
-          let found = mapped-got countedRows _ e in
-          (found .0, found .2, to-g ∙ then-got (linesAfter n d) (found .1))
+      pub g-read : {held : ℕ × List Pauli} {v : List ℕ} → mapped countedRows (generatorLines n firstGeneratorAt u) ≡ got held v
+          → (gs : List Pauli) × (countedRows gs ≡ held) × (sheetLines s ≡ linesAfter n d (firstGeneratorAt + held .0) gs v)
+      g-read {v = v} e =
+          let found = mapped-got countedRows _ e in (
+            found .0,
+            found .2,
+            to-g ∙ then-got (λ gs. linesAfter n d (firstGeneratorAt + length gs) gs) (found .1)
+                ∙ ap (λ m. linesAfter n d (firstGeneratorAt + m) (found .0) v) (ap (λ p. p .0) (found .2)),
+          )
 
 -- ---- what stands beside the answer
 
-module _ {s : List ℕ} {reading : LinesReading} {definition : Parsed Code} where
+module _ {s : List ℕ} {reading : LinesReading} {definition : Parsed SheetRead} where
   pub sheet-refused : {answer : Lines} {refusal : Refusal} → reading ≡ emptyBeside answer → answer ≡ Lines.Refused refusal
       → definition ≡ stop refusal → ReadsSheet s reading definition
   sheet-refused r a e =
       let b = ap (λ x. x .answer) r ∙ a in
-      record { reads = reads-refused b e; whole = r ∙ ap emptyBeside a ∙ ap (λ x. beside x (reading .code)) (sym b) }
+      record { reads = reads-refused b e; whole = r ∙ ap emptyBeside a ∙ ap (λ x. beside x (readIn reading)) (sym b) }
 
-  pub sheet-read : {used : ℕ} → reading .answer ≡ Lines.Read used → reading .next ≡ claimAt (reading .code) + 1 → used ≤ length s
-      → definition ≡ got (reading .code) (drop used s) → ReadsSheet s reading definition
-  sheet-read a b h e =
+  pub sheet-read : {used : ℕ} → reading .answer ≡ Lines.Read used → used ≤ length s → definition ≡ got (readIn reading) (drop used s)
+      → ReadsSheet s reading definition
+  sheet-read a h e =
       record {
         reads = reads-read a h e;
-        whole = (λ i. record { answer = a i; next = b i; code = reading .code }) ∙ ap (λ x. beside x (reading .code)) (sym a);
+        whole = (λ i. record { answer = a i; «claim_at» = reading .«claim_at»; code = reading .code }) ∙ ap (λ x. beside x (readIn reading)) (sym a);
       }
 
 -- A reading of the bytes from a place on, as one of all bytes.
-pub sheet-on-tail : {reading : LinesReading} (reader : Reader Code) (from : ℕ) (s : List ℕ)
+pub sheet-on-tail : {reading : LinesReading} (reader : Reader SheetRead) (from : ℕ) (s : List ℕ)
     → ReadsSheet (take (length s - from) (drop from s)) reading (reader (take (length s - from) (drop from s)))
     → ReadsSheet (drop from s) reading (reader (drop from s))
 sheet-on-tail {reading} reader from s h = subst (λ t. ReadsSheet t reading (reader t)) (tail-of from s) h
 
-module _ (from : ℕ) (s : List ℕ) {reading : LinesReading} {rest definition : Parsed Code} (h : ReadsSheet (drop from s) reading rest) (e : definition ≡ rest) where
+module _
+    (from : ℕ) (s : List ℕ) {reading : LinesReading} {rest definition : Parsed SheetRead} (h : ReadsSheet (drop from s) reading rest)
+    (e : definition ≡ rest) where
   pub sheet-refused-behind : {refusal : Refusal} → reading .answer ≡ Lines.Refused refusal → ReadsSheet s reading definition
   sheet-refused-behind a = record { reads = reads-refused a (e ∙ was-refused (h .reads) a); whole = h .whole }
 
   pub sheet-read-behind : {more : ℕ} → from ≤ length s → reading .answer ≡ Lines.Read more
-      → ReadsSheet s (record { answer = Lines.Read (from + more); next = reading .next; code = reading .code }) definition
+      → ReadsSheet s (record { answer = Lines.Read (from + more); «claim_at» = reading .«claim_at»; code = reading .code }) definition
   sheet-read-behind {more} fits a =
       let found = was-read (h .reads) a in
-      sheet-read refl (ap (λ x. x .next) (h .whole ∙ ap (λ x. beside x (reading .code)) a)) (omega (arith, found .within, length-drop from s))
-      (e ∙ found .gives ∙ ap (got (reading .code)) (drop-drop more from s))
+      sheet-read refl (omega (arith, found .within, length-drop from s))
+      (e ∙ found .gives ∙ ap (got (readIn reading)) (drop-drop more from s))
 
 -- So the reading is the definition's.
-pub is-answered : {s : List ℕ} {reading : LinesReading} {definition : Parsed Code} → ReadsSheet s reading definition → reading ≡ answered s definition
+pub is-answered : {s : List ℕ} {reading : LinesReading} {definition : Parsed SheetRead} → ReadsSheet s reading definition
+    → reading ≡ answered s definition
 unfolding answered
-is-answered {s} {reading} {definition} h = h .whole ∙ by-answer (reading .answer) (reading .code) (h .reads)
+is-answered {s} {reading} {definition} h = h .whole ∙ by-answer (reading .answer) (readIn reading) (h .reads)
   where
-    by-answer : (answer : Lines) (code : Code) → Reads s answer code definition → beside answer code ≡ answered s definition
-    by-answer (Lines.Read used) code p =
-        let bytes-used : used ≡ length s - length (drop used s) = omega (arith, length-drop used s, p .within) in
-        ap (λ m. record { answer = Lines.Read m; next = claimAt code + 1; code = code }) bytes-used ∙ ap (answered s) (p .parses)
-    by-answer (Lines.Refused refusal) code p = ap (answered s) (p .parses)
+    by-answer : (answer : Lines) (q : SheetRead) → Reads s answer q definition → beside answer q ≡ answered s definition
+    by-answer (Lines.Read used) q p =
+        ap (λ m. record { answer = Lines.Read m; «claim_at» = q .claimAt; code = q .code }) (bytes-used s used (p .within))
+        ∙ ap (answered s) (p .parses)
+    by-answer (Lines.Refused refusal) q p = ap (answered s) (p .parses)
 
 -- ---- a sheet by itself
 
+-- The line of w is one of few.
+pub claim-near : (s : List ℕ) (p : Parsed SheetRead) → ((q : SheetRead) (rest : List ℕ) → p ≡ got q rest → ReadIsLawful q)
+    → (answered s p) .«claim_at» < 100
+unfolding answered claimAt logicalsAt generatorsAt logicalCount pairCount
+claim-near s (got q rest) lawful =
+    let h = lawful q rest refl in
+    let l = limits (q .code) (h .limits) in omega (arith, h .claim, l .qubits, l .generatorCount)
+claim-near s (stop refusal) lawful = omega arith
+
 module _ (s : List ℕ) (reading : LinesReading) where
-  pub form-refused : {refusal : Refusal} (p : Parsed Code) → reading ≡ answered s p → reading .answer ≡ Lines.Refused refusal
+  pub form-refused : {refusal : Refusal} (p : Parsed SheetRead) → reading ≡ answered s p → reading .answer ≡ Lines.Refused refusal
       → reading ≡ answered s (continue p nothingBehind)
   unfolding answered continue
-  form-refused (got code rest) e a = absurd (let z : _≡_ {A = ℕ} 0 1 = cc (ap (λ x. x .answer) e) in omega arith)
+  form-refused (got q rest) e a = absurd (let z : _≡_ {A = ℕ} 0 1 = cc (ap (λ x. x .answer) e) in omega arith)
   form-refused (stop refusal) e a = e
 
   module _ {used : ℕ} (a : reading .answer ≡ Lines.Read used) where
-    pub form-behind : (p : Parsed Code) → reading ≡ answered s p → used < length s
-        → emptyBeside (Lines.Refused (Refusal.Form (reading .next))) ≡ answered s (continue p nothingBehind)
+    pub form-behind : (p : Parsed SheetRead) → reading ≡ answered s p → used < length s
+        → emptyBeside (Lines.Refused (Refusal.Form (reading .«claim_at» + 1))) ≡ answered s (continue p nothingBehind)
     unfolding answered continue nothingBehind
-    form-behind (got code []) e h = let z : used ≡ length s - 0 = cc (ap (λ x. x .answer) e) in absurd (omega arith)
-    form-behind (got code (b ∷ rest)) e h = ap (λ m. emptyBeside (Lines.Refused (Refusal.Form m))) (ap (λ x. x .next) e)
+    form-behind (got q []) e h = let z : used ≡ length s - 0 = cc (ap (λ x. x .answer) e) in absurd (omega arith)
+    form-behind (got q (b ∷ rest)) e h = ap (λ m. emptyBeside (Lines.Refused (Refusal.Form (m + 1)))) (ap (λ x. x .«claim_at») e)
     form-behind (stop refusal) e h = absurd (let z : _≡_ {A = ℕ} 0 1 = cc (ap (λ x. x .answer) e) in omega arith)
 
-    pub form-whole : (p : Parsed Code) → reading ≡ answered s p → length s ≤ used → ((code : Code) (rest : List ℕ) → p ≡ got code rest → length rest ≤ length s)
+    pub form-whole : (p : Parsed SheetRead) → reading ≡ answered s p → length s ≤ used → ((q : SheetRead) (rest : List ℕ) → p ≡ got q rest → length rest ≤ length s)
         → reading ≡ answered s (continue p nothingBehind)
     unfolding answered continue nothingBehind
-    form-whole (got code []) e h fits = e
-    form-whole (got code (b ∷ rest)) e h fits =
-        let z : used ≡ length s - suc (length rest) = cc (ap (λ x. x .answer) e) in absurd (omega (arith, fits code (b ∷ rest) refl))
+    form-whole (got q []) e h fits = e
+    form-whole (got q (b ∷ rest)) e h fits =
+        let z : used ≡ length s - suc (length rest) = cc (ap (λ x. x .answer) e) in absurd (omega (arith, fits q (b ∷ rest) refl))
     form-whole (stop refusal) e h fits = absurd (let z : _≡_ {A = ℕ} 0 1 = cc (ap (λ x. x .answer) e) in omega arith)

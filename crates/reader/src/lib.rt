@@ -1,340 +1,136 @@
-// The reader of a sheet's lines, in their order. Each line has a reader of its own: it is lent the bytes that remain, and answers how many of
-// them the line took, or the refusal that ends the reading.
-use pauli::Letter;
-use pauli::LetterRead;
+// The reader of a sheet: its lines in their order. Each reader is lent the bytes that remain, and answers how many of them it took, or the
+// refusal that ends the reading.
 use pauli::Pauli;
-use pauli::Sign;
-use pauli::SignRead;
 use sheet::Code;
+use sheet::FIRST_GENERATOR_AT;
 use sheet::Family;
+use sheet::GENERATOR_ROOM;
+use sheet::LOGICAL_ROOM;
+use sheet::LONGEST_INPUT;
 use sheet::Lines;
 use sheet::LinesReading;
 use sheet::Refusal;
 ghost use mathlib.Core.Path.{_≡_};
-ghost use Prim.Native.Nat.{ℕ, _≤_, _<_};
 ghost use mathlib.Core.List.{List};
-ghost use lib.ListN.{length};
+ghost use Prim.Native.Nat.{ℕ, _+_, _≤_, _<_};
+ghost use lib.ListN.{length, take};
 ghost use Rattle.pauli.specs.declared.Pauli.{Pauli};
-ghost use Rattle.sheet.specs.Record.{filled, rowKey};
-ghost use Rattle.sheet.specs.Reader.{Parsed, continue, isLine, qubitDigits, readDigit, readNumber, readLetters};
-ghost use Rattle.sheet.specs.Reader.{inRange, qubitLine, distanceLine, rowLine, allGeneratorLines, logicalLines, claimLine};
-ghost use Rattle.sheet.specs.Reader.{linesAfter, sheetLines, linesReading, formReading, behind};
-ghost use Rattle.reader.specs.Answers.{keyOf, keyBytes, numberIn, rowIn, numberLine, Reads, mapped, countedRows, emptyBeside, ReadsSheet};
+ghost use Rattle.sheet.specs.Record.{mostQubits, logicalRoom, generatorRoom, mostGenerators, firstGeneratorAt, filled, rowKey};
+ghost use Rattle.sheet.specs.Reader.{rowsUpTo, generatorLines, logicalLines, linesAfter, sheetLines};
+ghost use Rattle.sheet.specs.Reader.{linesReading, formReading, behind};
+ghost use Rattle.reader.specs.Answers.{Reads, mapped, countedRows, emptyBeside, ReadsSheet};
 
-// What bytes are read as.
-enum Number {
-    Got(usize),
-    NotANumber,
-}
-
-enum Letters {
-    Got(Pauli),
-    NotLetters,
-}
-
-// The key of the line at the start of s: the byte before a `=`, or 0 where there is none.
-fn key_of(s: &[u8]) -> u8
-    ensures { λ r. ⌜ r ≡ keyOf (now (s .entry)) ⌝ }
-{
-    if s.len() < 2 {
-        return 0;
-    }
-    match s[1] {
-        b'=' => s[0],
-        _ => 0,
-    }
-}
-
-// Whether a line of m bytes stands behind the key that s begins with.
-fn is_line(s: &[u8], m: usize) -> bool
-    requires { ⌜ 0 < keyOf (now s) ⌝ }
-    requires { ⌜ m ≤ 25 ⌝ }
-    ensures { λ r. ⌜ r ≡ isLine (keyBytes (keyOf (now (s .entry)))) m (now (s .entry)) ⌝ }
-{
-    m + 2 < s.len() && s[m + 2] == b'\n'
-}
-
-fn read_digit(c: u8) -> Number
-    ensures { λ r. ⌜ numberIn r ≡ readDigit c ⌝ }
-{
-    if c < b'0' || b'9' < c {
-        return Number::NotANumber;
-    }
-    Number::Got((c - b'0') as usize)
-}
-
-// A number of one or two digits, the first not 0.
-fn read_number(word: &[u8]) -> Number
-    requires { ⌜ 0 < length (now word) ⌝ }
-    requires { ⌜ length (now word) ≤ 2 ⌝ }
-    ensures { λ r. ⌜ numberIn r ≡ readNumber (now (word .entry)) ⌝ }
-{
-    let Number::Got(first) = read_digit(word[0]) else {
-        return Number::NotANumber;
-    };
-    if first == 0 {
-        return Number::NotANumber;
-    }
-    if word.len() == 1 {
-        return Number::Got(first);
-    }
-    let Number::Got(second) = read_digit(word[1]) else {
-        return Number::NotANumber;
-    };
-    Number::Got(first * 10 + second)
-}
-
-// Letters, as a row with sign +. The masks grow from the last letter to the first.
-fn read_letters(word: &[u8]) -> Letters
-    requires { ⌜ length (now word) ≤ 24 ⌝ }
-    ensures { λ r. ⌜ rowIn r ≡ readLetters (now (word .entry)) ⌝ }
-{
-    let mut a: u32 = 0;
-    let mut b: u32 = 0;
-    let mut place = word.len();
-    while 0 < place {
-        place -= 1;
-        let LetterRead::Got(letter) = Letter::read(word[place]) else {
-            return Letters::NotLetters;
-        };
-        a = letter.x_bit() + 2 * a;
-        b = letter.z_bit() + 2 * b;
-    }
-    Letters::Got(Pauli::signed(Sign::Plus, a, b))
-}
-
-// The answer of the reader of a line with a number, and the number.
-struct NumberLine {
-    answer: Lines,
-    number: usize,
-}
-
-impl NumberLine {
-    fn refused(refusal: Refusal) -> NumberLine
-        ensures { λ r. ⌜ r .answer ≡ Lines.Refused refusal ⌝ }
-    {
-        NumberLine {
-            answer: Lines::Refused(refusal),
-            number: 0,
-        }
-    }
-
-    // The line as it was read, where its number is low to high.
-    fn in_range(self, low: usize, high: usize, refusal: Refusal) -> NumberLine
-        ensures { λ r. ⌜ ((s : List ℕ) (p : Parsed ℕ) → Reads s (self .answer) (self .number) p → Reads s (r .answer) (r .number) (continue p (inRange low high refusal))) ⌝ }
-    {
-        let answer = self.answer;
-        let Lines::Read { used: _ } = answer else {
-            return self;
-        };
-        let number = self.number;
-        if number < low || high < number {
-            return NumberLine::refused(refusal);
-        }
-        self
-    }
-}
-
-// A line with a number of so many digits, whose key is known.
-fn number_line(s: &[u8], digits: usize, at: usize) -> NumberLine
-    requires { ⌜ 0 < keyOf (now s) ⌝ }
-    requires { ⌜ 0 < digits ⌝ }
-    requires { ⌜ digits ≤ 2 ⌝ }
-    ensures { λ r. ⌜ Reads (now (s .entry)) (r .answer) (r .number) (numberLine (keyBytes (keyOf (now (s .entry)))) digits at (now (s .entry))) ⌝ }
-{
-    if !is_line(s, digits) {
-        return NumberLine::refused(Refusal::Form(at));
-    }
-    let Number::Got(number) = read_number(&s[2..digits + 2]) else {
-        return NumberLine::refused(Refusal::Form(at));
-    };
-    NumberLine {
-        answer: Lines::Read { used: digits + 3 },
-        number,
-    }
-}
-
-// One digit where a line feed follows the first, else two.
-fn qubit_digits(s: &[u8]) -> usize
-    ensures { λ r. ⌜ r ≡ qubitDigits (now (s .entry)) ⌝ }
-{
-    if 3 < s.len() && s[3] == b'\n' {
-        return 1;
-    }
-    2
-}
-
-fn qubit_line(s: &[u8]) -> NumberLine
-    ensures { λ r. ⌜ Reads (now (s .entry)) (r .answer) (r .number) (qubitLine (now (s .entry))) ⌝ }
-{
-    let b'n' = key_of(s) else {
-        return NumberLine::refused(Refusal::Form(1));
-    };
-    let line = number_line(s, qubit_digits(s), 1);
-    line.in_range(2, 24, Refusal::QubitCount(1))
-}
-
-fn distance_line(s: &[u8]) -> NumberLine
-    ensures { λ r. ⌜ Reads (now (s .entry)) (r .answer) (r .number) (distanceLine (now (s .entry))) ⌝ }
-{
-    let b'd' = key_of(s) else {
-        return NumberLine::refused(Refusal::Form(2));
-    };
-    let line = number_line(s, 1, 2);
-    line.in_range(1, 7, Refusal::DistanceRange(2))
-}
-
-// The answer of the reader of a line with letters, and the row.
-struct RowLine {
-    answer: Lines,
-    row: Pauli,
-}
-
-impl RowLine {
-    fn refused(at: usize) -> RowLine
-        ensures { λ r. ⌜ r .answer ≡ Lines.Refused (Refusal.Form at) ⌝ }
-    {
-        RowLine {
-            answer: Lines::Refused(Refusal::Form(at)),
-            row: Pauli::identity(),
-        }
-    }
-}
-
-// The line of a row: a sign, then n letters.
-fn row_line(s: &[u8], family: Family, n: usize, at: usize) -> RowLine
-    requires { ⌜ n ≤ 24 ⌝ }
-    ensures { λ r. ⌜ Reads (now (s .entry)) (r .answer) (r .row) (rowLine (rowKey family) n at (now (s .entry))) ⌝ }
-{
-    if key_of(s) != family.key() {
-        return RowLine::refused(at);
-    }
-    if !is_line(s, n + 1) {
-        return RowLine::refused(at);
-    }
-    let SignRead::Got(sign) = Sign::read(s[2]) else {
-        return RowLine::refused(at);
-    };
-    let Letters::Got(plus) = read_letters(&s[3..n + 3]) else {
-        return RowLine::refused(at);
-    };
-    RowLine {
-        answer: Lines::Read { used: n + 4 },
-        row: Pauli::signed(sign, plus.a, plus.b),
-    }
-}
-
-// The answer of the reader of the g lines, how many there are, and their rows.
-struct Generators {
+// The rows that lines one after the other have: the answer of their reader, how many there are, and the rows.
+struct Rows {
     answer: Lines,
     count: usize,
-    rows: [Pauli; 32],
+    rows: [Pauli; GENERATOR_ROOM],
 }
 
-impl Generators {
-    fn refused(answer: Lines) -> Generators
-        ensures { λ r. ⌜ r .answer ≡ answer ⌝ }
-        ensures { λ r. ⌜ r .count ≡ 0 ⌝ }
-    {
-        let one = Pauli::identity();
-        let rows = [one; 32];
-        Generators {
-            answer,
-            count: 0,
-            rows,
-        }
-    }
-}
-
-// The g lines, one at least and n - 1 at most.
-fn generator_lines(s: &[u8], n: usize) -> Generators
-    requires { ⌜ 2 ≤ n ⌝ }
-    requires { ⌜ n ≤ 24 ⌝ }
-    ensures { λ r. ⌜ r .count < n ⌝ }
-    ensures { λ r. ⌜ Reads (now (s .entry)) (r .answer) (r .count, r .rows) (mapped countedRows (allGeneratorLines n (now (s .entry)))) ⌝ }
+// The lines of a family's rows from the line `at` on, until one is of another kind or `most` are read.
+fn rows_up_to(s: &[u8], family: Family, most: usize, n: usize, at: usize) -> Rows
+    requires { ⌜ most ≤ mostQubits ⌝ }
+    requires { ⌜ n ≤ mostQubits ⌝ }
+    requires { ⌜ at < 100 ⌝ }
+    ensures { λ r. ⌜ r .count ≤ most ⌝ }
+    ensures { λ r. ⌜ Reads (now (s .entry)) (r .answer) (r .count, r .rows) (mapped countedRows (rowsUpTo most (rowKey family) n at (now (s .entry)))) ⌝ }
 {
     let one = Pauli::identity();
-    let mut rows = [one; 32];
+    let mut rows = [one; GENERATOR_ROOM];
     let mut count = 0;
     let mut used = 0;
-    loop {
-        match key_of(&s[used..]) {
-            b'g' => {}
-            _ => break,
-        }
-        if count == n - 1 {
-            return Generators::refused(Lines::Refused(Refusal::GeneratorCount(3 + count)));
-        }
-        let line = row_line(&s[used..], Family::Generator, n, 3 + count);
+    while count < most && lines::begins_row(&s[used..], family) {
+        let line = lines::signed_row(&s[used..], n, at + count);
         let answer = line.answer;
         let Lines::Read { used: more } = answer else {
-            return Generators::refused(answer);
+            return Rows {
+                answer,
+                count,
+                rows,
+            };
         };
         let row = line.row;
         rows[count] = row;
         count += 1;
         used += more;
     }
-    if count == 0 {
-        return Generators::refused(Lines::Refused(Refusal::GeneratorCount(3)));
-    }
-    Generators {
+    Rows {
         answer: Lines::Read { used },
         count,
         rows,
     }
 }
 
+// The g lines, one at least and n - 1 at most.
+fn generator_lines(s: &[u8], n: usize) -> Rows
+    requires { ⌜ n ≤ mostQubits ⌝ }
+    ensures { λ r. ⌜ r .count ≤ mostGenerators n ⌝ }
+    ensures { λ r. ⌜ Reads (now (s .entry)) (r .answer) (r .count, r .rows) (mapped countedRows (generatorLines n firstGeneratorAt (now (s .entry)))) ⌝ }
+{
+    let generators = rows_up_to(
+        s,
+        Family::Generator,
+        sheet::most_generators(n),
+        n,
+        FIRST_GENERATOR_AT,
+    );
+    let answer = generators.answer;
+    let Lines::Read { used } = answer else {
+        return generators;
+    };
+    let count = generators.count;
+    if count == 0 || lines::begins_row(&s[used..], Family::Generator) {
+        let rows = generators.rows;
+        return Rows {
+            answer: Lines::Refused(Refusal::GeneratorCount(FIRST_GENERATOR_AT + count)),
+            count,
+            rows,
+        };
+    }
+    generators
+}
+
+// The rows of an array that a record's array of logicals has room for.
+fn logical_rows(rows: [Pauli; GENERATOR_ROOM]) -> [Pauli; LOGICAL_ROOM]
+    ensures { λ r. ⌜ r ≡ take logicalRoom rows ⌝ }
+{
+    let one = Pauli::identity();
+    let mut logicals = [one; LOGICAL_ROOM];
+    for place in 0..LOGICAL_ROOM {
+        let row = rows[place];
+        logicals[place] = row;
+    }
+    logicals
+}
+
 // The answer of the reader of the x or z lines, and their rows.
 struct Logicals {
     answer: Lines,
-    rows: [Pauli; 24],
+    rows: [Pauli; LOGICAL_ROOM],
 }
 
-// The k lines of the logical operators of one kind, from the line `first` on.
-fn logical_lines(s: &[u8], family: Family, n: usize, k: usize, first: usize) -> Logicals
-    requires { ⌜ n ≤ 24 ⌝ }
-    requires { ⌜ k ≤ 24 ⌝ }
-    requires { ⌜ first < 100 ⌝ }
-    ensures { λ r. ⌜ Reads (now (s .entry)) (r .answer) (r .rows) (mapped (filled 24) (logicalLines k (rowKey family) n first (now (s .entry)))) ⌝ }
+// The k lines of the logical operators of one kind, from the line `at` on.
+fn logical_lines(s: &[u8], family: Family, n: usize, k: usize, at: usize) -> Logicals
+    requires { ⌜ n ≤ mostQubits ⌝ }
+    requires { ⌜ k ≤ mostQubits ⌝ }
+    requires { ⌜ at < 100 ⌝ }
+    ensures { λ r. ⌜ Reads (now (s .entry)) (r .answer) (r .rows) (mapped (filled logicalRoom) (logicalLines k (rowKey family) n at (now (s .entry)))) ⌝ }
 {
-    let one = Pauli::identity();
-    let mut rows = [one; 24];
-    let mut used = 0;
-    for place in 0..k {
-        let line = row_line(&s[used..], family, n, first + place);
-        let answer = line.answer;
-        let Lines::Read { used: more } = answer else {
-            return Logicals { answer, rows };
+    let logicals = rows_up_to(s, family, k, n, at);
+    let read = logicals.rows;
+    let rows = logical_rows(read);
+    let answer = logicals.answer;
+    let Lines::Read { used: _ } = answer else {
+        return Logicals { answer, rows };
+    };
+    let count = logicals.count;
+    if count < k {
+        return Logicals {
+            answer: Lines::Refused(Refusal::Form(at + count)),
+            rows,
         };
-        let row = line.row;
-        rows[place] = row;
-        used += more;
     }
-    Logicals {
-        answer: Lines::Read { used },
-        rows,
-    }
-}
-
-// The line of w: n letters.
-fn claim_line(s: &[u8], n: usize, at: usize) -> RowLine
-    requires { ⌜ n ≤ 24 ⌝ }
-    ensures { λ r. ⌜ Reads (now (s .entry)) (r .answer) (r .row) (claimLine n at (now (s .entry))) ⌝ }
-{
-    let b'w' = key_of(s) else {
-        return RowLine::refused(at);
-    };
-    if !is_line(s, n) {
-        return RowLine::refused(at);
-    }
-    let Letters::Got(row) = read_letters(&s[2..n + 2]) else {
-        return RowLine::refused(at);
-    };
-    RowLine {
-        answer: Lines::Read { used: n + 3 },
-        row,
-    }
+    Logicals { answer, rows }
 }
 
 // A refused reading: the empty record stands beside the refusal.
@@ -343,31 +139,32 @@ fn refused(answer: Lines) -> LinesReading
 {
     LinesReading {
         answer,
-        next: 0,
+        claim_at: 0,
         code: Code::empty(),
     }
 }
 
-// The lines behind the g lines: x, z and w.
-fn lines_after(s: &[u8], n: usize, d: usize, generators: Generators) -> LinesReading
-    requires { ⌜ n ≤ 24 ⌝ }
-    requires { ⌜ generators .count < n ⌝ }
-    ensures { λ q. ⌜ ((gs : List Pauli) → countedRows gs ≡ (generators .count, generators .rows) → ReadsSheet (now (s .entry)) q (linesAfter n d gs (now (s .entry)))) ⌝ }
+// The lines behind the g lines, from the line `at` on: x, z and w.
+fn lines_after(s: &[u8], n: usize, d: usize, at: usize, generators: Rows) -> LinesReading
+    requires { ⌜ n ≤ mostQubits ⌝ }
+    requires { ⌜ at < 50 ⌝ }
+    ensures { λ q. ⌜ ((gs : List Pauli) → countedRows gs ≡ (generators .count, generators .rows) → ReadsSheet (now (s .entry)) q (linesAfter n d at gs (now (s .entry)))) ⌝ }
 {
     let r = generators.count;
-    let k = n - r;
-    let xs = logical_lines(s, Family::LogicalX, n, k, 3 + r);
+    let k = sheet::pair_count(n, r);
+    let xs = logical_lines(s, Family::LogicalX, n, k, at);
     let answer = xs.answer;
     let Lines::Read { used: to_z } = answer else {
         return refused(answer);
     };
-    let zs = logical_lines(&s[to_z..], Family::LogicalZ, n, k, 3 + r + k);
+    let zs = logical_lines(&s[to_z..], Family::LogicalZ, n, k, at + k);
     let answer = zs.answer;
     let Lines::Read { used: z_bytes } = answer else {
         return refused(answer);
     };
     let to_w = to_z + z_bytes;
-    let claim = claim_line(&s[to_w..], n, 3 + r + 2 * k);
+    let claim_at = at + 2 * k;
+    let claim = lines::claim_line(&s[to_w..], n, claim_at);
     let answer = claim.answer;
     let Lines::Read { used: w_bytes } = answer else {
         return refused(answer);
@@ -380,7 +177,7 @@ fn lines_after(s: &[u8], n: usize, d: usize, generators: Generators) -> LinesRea
         answer: Lines::Read {
             used: to_w + w_bytes,
         },
-        next: 4 + r + 2 * k,
+        claim_at,
         code: Code {
             n,
             r,
@@ -397,12 +194,12 @@ fn lines_after(s: &[u8], n: usize, d: usize, generators: Generators) -> LinesRea
 fn sheet_lines(s: &[u8]) -> LinesReading
     ensures { λ r. ⌜ ReadsSheet (now (s .entry)) r (sheetLines (now (s .entry))) ⌝ }
 {
-    let qubits = qubit_line(s);
+    let qubits = lines::qubit_line(s);
     let answer = qubits.answer;
     let Lines::Read { used: to_d } = answer else {
         return refused(answer);
     };
-    let distance = distance_line(&s[to_d..]);
+    let distance = lines::distance_line(&s[to_d..]);
     let answer = distance.answer;
     let Lines::Read { used: d_bytes } = answer else {
         return refused(answer);
@@ -415,7 +212,8 @@ fn sheet_lines(s: &[u8]) -> LinesReading
         return refused(answer);
     };
     let to_x = to_g + g_bytes;
-    let rest = lines_after(&s[to_x..], n, distance.number, generators);
+    let at = FIRST_GENERATOR_AT + generators.count;
+    let rest = lines_after(&s[to_x..], n, distance.number, at, generators);
     let answer = rest.answer;
     let Lines::Read { used: more } = answer else {
         return rest;
@@ -423,7 +221,7 @@ fn sheet_lines(s: &[u8]) -> LinesReading
     let code = rest.code;
     LinesReading {
         answer: Lines::Read { used: to_x + more },
-        next: rest.next,
+        claim_at: rest.claim_at,
         code,
     }
 }
@@ -432,7 +230,7 @@ fn sheet_lines(s: &[u8]) -> LinesReading
 pub fn read_lines(s: &[u8]) -> LinesReading
     ensures { λ r. ⌜ r ≡ linesReading (now (s .entry)) ⌝ }
 {
-    if 4096 < s.len() {
+    if LONGEST_INPUT < s.len() {
         return refused(Lines::Refused(Refusal::TooLong));
     }
     sheet_lines(s)
@@ -448,7 +246,7 @@ pub fn read_form(s: &[u8]) -> LinesReading
         return reading;
     };
     if used < s.len() {
-        return refused(Lines::Refused(Refusal::Form(reading.next)));
+        return refused(Lines::Refused(Refusal::Form(reading.claim_at + 1)));
     }
     reading
 }

@@ -18,9 +18,7 @@ use Rattle.sheet.specs.declared.Family.the-variants.{Generator, LogicalX
 use Rattle.sheet.specs.declared.Refusal.{Refusal}
 use Rattle.sheet.specs.Refusals.{refuseIf}
 
--- RULES, "The record": the sizes. So many generators have room in a record, and so many logicals of each kind; a sheet
--- has so many qubits, such a distance and so many bytes at most; an input, which may go on behind the sheet, has so
--- many bytes at most.
+-- RULES, "The record": the places for generators, and for logicals of each kind; the most qubits; the longest distance.
 abbrev pub generatorRoom : ℕ
 generatorRoom = 32
 
@@ -33,14 +31,14 @@ mostQubits = 24
 abbrev pub longestDistance : ℕ
 longestDistance = 7
 
+-- RULES, "The sheet": how many bytes an input has at most, and a sheet that passes.
 abbrev pub longestInput : ℕ
 longestInput = 4096
 
 abbrev pub longestSheet : ℕ
 longestSheet = 1352
 
--- RULES, "The sheet": a code of n qubits and r generators has n - r pairs of logicals, and at most n - 1 generators are
--- read.
+-- RULES, "The sheet": n qubits and r generators leave n - r pairs of logicals, and there are n - 1 generators at most.
 unfoldable pub pairCount : ℕ → ℕ → ℕ
 pairCount n r = n - r
 
@@ -50,7 +48,7 @@ mostGenerators n = n - 1
 unfoldable pub logicalCount : Code → ℕ
 logicalCount c = pairCount (c .n) (c .r)
 
--- RULES, "Decoding": t is the whole part of (d - 1) / 2.
+-- RULES, "The record": t is (d - 1) / 2 rounded down.
 unfoldable pub radius : Code → ℕ
 radius c = (c .d - 1) / 2
 

@@ -35,14 +35,14 @@ phasesModulo4 c = record {
   w = modulo4 (c .w);
 }
 
--- RULES, "Guarantees": reading what was written of a record within limits gives that record, the line of w in its
+-- RULES, "The writer": reading what was written of a record within limits gives that record, the line of w in its
 -- sheet, and what stood behind the sheet.
 abbrev pub ReadAfterWrite : Type 0
 ReadAfterWrite =
     (c : Code) (rest : List ℕ) → Sized c → withinLimits c ≡ true → length (sheetText c ++ rest) ≤ longestInput
     → readLines (sheetText c ++ rest) ≡ got (record { code = phasesModulo4 c; claimAt = claimAt c }) rest
 
--- RULES, "Guarantees": writing what was read gives the bytes that were read.
+-- RULES, "The writer": writing what was read gives the bytes that were read.
 abbrev pub WriteAfterRead : Type 0
 WriteAfterRead =
     (s : List ℕ) (q : SheetRead) (rest : List ℕ) → readLines s ≡ got q rest → sheetText (q .code) ++ rest ≡ s

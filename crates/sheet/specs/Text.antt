@@ -19,8 +19,7 @@ lineFeed = 10
 unfoldable pub line : String → List ℕ → List ℕ
 line key value = bytes key ++ value ++ lineFeed ∷ []
 
--- RULES, "The sheet": numbers stand in base ten, without leading zeros. The first argument bounds how many digits there
--- are.
+-- RULES, "The writer": a number has no leading zeros. The first argument bounds how many digits it has.
 unfoldable pub digitsOf : ℕ → ℕ → List ℕ
 digitsOf zero m = []
 digitsOf (suc k) m =

@@ -1,178 +1,141 @@
--- Each turn reads one line where one begins; what was read stands before what the rest gives.
+-- The rows are read, or refused; then their count is looked at.
+use mathlib.Core.Bool.{true, false, _||_, or-true}
 use mathlib.Core.List.{List}
-use mathlib.Core.Path.{_≡_, refl, ap, sym, subst, _∙_}
-use Prim.Native.Nat.{ℕ, _+_, _-_, _<_}
+use mathlib.Core.Logic.{⊎-elim}
+use mathlib.Core.Path.{_≡_, refl, ap, sym, _∙_}
+use Prim.Native.Nat.{ℕ, _+_, _≤_}
 use native.Mathlib.Omega.{arith}
 use borrow.Author.Needs.{needs}
-use lib.ListN.{drop, replicate, length-drop}
+use borrow.Author.Tests.{eq-eqb, ne-eqb}
+use lib.Dec.{eqb}
+use lib.ListN.{length, drop}
+use Rattle.pauli.specs.declared.Pauli.{Pauli}
+use Rattle.pauli.specs.Lists.{bytes}
+use Rattle.sheet.specs.declared.Lines.{Lines}
 use Rattle.sheet.specs.declared.Refusal.{Refusal}
-use Rattle.sheet.specs.Reader.{got, stop, done, continue, rowLine, allGeneratorLines}
-use Rattle.sheet.specs.Record.{filled}
-use Rattle.reader.specs.Answers.{Reads, keyOf, mapped, countedRows}
+use Rattle.sheet.specs.Reader.{Parsed, got, begins, rowsUpTo}
+use Rattle.sheet.specs.Record.{firstGeneratorAt, mostGenerators, filled}
 use Rattle.sheet.proofs.Parts.{tail-of}
-use Rattle.reader.proofs.Lines.{reads-refused, reads-read, Reached, was-read, was-refused, on-tail}
-use Rattle.reader.proofs.Progress.{Progress, progress-start, progress-row, progress-refused, progress-end}
-use Rattle.reader.proofs.RowLines.{generatorsLeft, generators-all, no-generator, generators-end, generators-too-many, generators-refused, generators-row}
+use Rattle.reader.specs.Answers.{Reads, mapped, countedRows}
+use Rattle.reader.proofs.Reached.{reads-refused, reads-read, reads-as, Reached, was-read, was-refused}
+use Rattle.reader.proofs.RowLines.{mapped-stop, mapped-got, then-mapped, stop-mapped}
+use Rattle.reader.proofs.RowLines.{generators-refused, generators-miscounted, generators-counted}
 use Rattle.reader.proofs.generator_lines.Statement.{statement}
 use Rattle.reader.proofs.generator_lines.Tie as tie
 
-abbrev Inv-loop : tie.InvT-loop
-Inv-loop s n rows₀ count₀ used₀ rows count used = (count < n) × Progress 32 (generatorsLeft n) s rows count used
+abbrev start : tie.After-rows-up-to → tie.Start
+start c = c .before .before .before
 
-abbrev μ-loop : tie.MeasureT-loop
-μ-loop s n rows₀ count₀ used₀ rows count used = n - count
+abbrev s : tie.Start → List ℕ
+s c = c .args .s .now
 
-abbrev At : Type 0
-At = tie.At-loop Inv-loop μ-loop
+abbrev n : tie.Start → ℕ
+n c = c .args .n
 
-abbrev n : At → ℕ
-n c = c .before .before .before .args .n
+-- the lines, as many as are read
+abbrev lines : tie.Start → Parsed (List Pauli)
+lines c = rowsUpTo (mostGenerators (n c)) "g=" (n c) firstGeneratorAt (s c)
 
-abbrev s : At → List ℕ
-s c = c .before .before .before .args .s .now
+few : (c : tie.After-rows-up-to) → c .rows-up-to .result .count ≤ mostGenerators (n (start c))
+few c = omega (arith, c .rows-up-to .ensures .0, c .before .most-generators .ensures)
 
-abbrev count : At → ℕ
-count c = c .loop .count
+rows-answer : (c : tie.After-rows-up-to)
+    → Reads (s (start c)) (c .rows-up-to .result .answer) (c .rows-up-to .result .count, c .rows-up-to .result .rows)
+    (mapped countedRows (lines (start c)))
+rows-answer c =
+    reads-as
+    (ap (λ m. mapped countedRows (rowsUpTo m "g=" (n (start c)) firstGeneratorAt (s (start c)))) (c .before .most-generators .ensures))
+    (c .rows-up-to .ensures .1)
 
--- the bytes that are left
-abbrev left : At → List ℕ
-left c = drop (c .loop .used) (s c)
+-- ---- the rows that were read
 
-so-far : (c : At) → Progress 32 (generatorsLeft (n c)) (s c) (c .loop .rows) (count c) (c .loop .used)
-so-far c = c .loop .inv .1
+abbrev found : tie.After-answer → tie.After-rows-up-to
+found c = c .before .before
 
--- A refusal of what is left is one of all lines.
-refused-from : {refusal : Refusal} (c : At) → generatorsLeft (n c) (count c) (left c) ≡ stop refusal
-    → mapped countedRows (allGeneratorLines (n c) (s c)) ≡ stop refusal
-unfolding mapped continue
-refused-from c e =
-    ap (mapped countedRows) (sym (generators-all (n c) (s c)) ∙ progress-refused 32 (generatorsLeft (n c)) (s c) (so-far c) e)
+abbrev count : tie.After-answer → ℕ
+count c = found c .rows-up-to .result .count
 
--- ---- the key of the next line
+abbrev rest : tie.After-answer → List ℕ
+rest c = drop (c .answer .given .0 .0) (s (start (found c)))
 
-abbrev key-at : tie.After-key-of Inv-loop μ-loop → At
-key-at c = c .before .before
+reached : (c : tie.After-answer)
+    → Reached (s (start (found c))) (c .answer .given .0 .0) (count c, found c .rows-up-to .result .rows) (mapped countedRows (lines (start (found c))))
+reached c = was-read (rows-answer (found c)) (c .answer .given .1)
 
-key : (c : tie.After-key-of Inv-loop μ-loop) → keyOf (left (key-at c)) ≡ c .key-of .result
-key c = ap keyOf (sym (tail-of (key-at c .loop .used) (s (key-at c)))) ∙ sym (c .key-of .ensures)
+read : (c : tie.After-answer)
+    → (gs : List Pauli) × (lines (start (found c)) ≡ got gs (rest c)) × (countedRows gs ≡ (count c, found c .rows-up-to .result .rows))
+read c = mapped-got countedRows _ (reached c .gives)
 
-is-g : (c : tie.At-match-keys1 Inv-loop μ-loop) → keyOf (left (key-at (c .before))) ≡ 103
-is-g c = key (c .before) ∙ c .match .keys1
+counted : (c : tie.After-answer) → length (read c .0) ≡ count c
+counted c = ap (λ p. p .0) (read c .2)
 
-not-g : (c : tie.At-match-rest Inv-loop μ-loop) → keyOf (left (key-at (c .before))) ≡ 103 → ⊥
-not-g c e = c .match .rest .1 (sym (key (c .before)) ∙ e)
+-- ---- the needs
 
--- ---- the next line
+rows-up-to-requires : tie.Need-rows-up-to-requires
+unfolding mostGenerators
+rows-up-to-requires c κs = let most = c .most-generators .ensures in (omega arith, (search needs, omega arith))
 
-abbrev g-key : tie.After-row-line Inv-loop μ-loop → tie.At-match-keys1 Inv-loop μ-loop
-g-key c = c .before .before .before
-
-abbrev line-at : tie.After-row-line Inv-loop μ-loop → At
-line-at c = key-at (g-key c .before)
-
-line-answer : (c : tie.After-row-line Inv-loop μ-loop)
-    → Reads (left (line-at c)) (c .row-line .result .answer) (c .row-line .result .row) (rowLine "g=" (n (line-at c)) (3 + count (line-at c)) (left (line-at c)))
-line-answer c = on-tail (rowLine "g=" (n (line-at c)) (3 + count (line-at c))) (line-at c .loop .used) (s (line-at c)) (c .row-line .ensures)
-
-line-read : (c : tie.After-answer Inv-loop μ-loop)
-    → Reached (left (line-at (c .before .before))) (c .answer .given .0 .0) (c .before .before .row-line .result .row)
-    (rowLine "g=" (n (line-at (c .before .before))) (3 + count (line-at (c .before .before))) (left (line-at (c .before .before))))
-line-read c = was-read (line-answer (c .before .before)) (c .answer .given .1)
-
-loop-holds : tie.Need-loop-holds Inv-loop μ-loop
-loop-holds c =
-    let first = c .before .before in
-    let R = generatorsLeft (first .args .n) in (
-      search needs,
-      subst (λ one. Progress 32 R (first .args .s .now) (replicate 32 one) 0 0) (sym (c .identity .ensures)) (progress-start 32 R (first .args .s .now)),
-    )
-
-returns : tie.Need-returns Inv-loop μ-loop
+returns : tie.Need-returns
 returns c =
-    let found = c .before .before in (
-      search needs,
-      reads-refused (c .refused .ensures .0)
-          (refused-from (key-at (found .before)) (generators-too-many _ _ _ (is-g found) (c .before .if1 .taken))),
+    let line = c .before .before in (
+      few line,
+      reads-refused (c .enum-told .given .1)
+          (stop-mapped countedRows
+          (generators-refused _ _ _ (mapped-stop countedRows _ (was-refused (rows-answer line) (c .enum-told .given .1))))),
     )
 
-returns-2 : tie.Need-returns-2 Inv-loop μ-loop
+sub-begins-row : tie.Need-sub-begins-row
+sub-begins-row c = reached (c .before .before) .within
+
+part-begins-row-start : tie.Need-part-begins-row-start
+part-begins-row-start c = reached (c .before .before) .within
+
+add-t17 : tie.Need-add-t17
+unfolding mostGenerators
+add-t17 c = omega (arith, few (found (c .before .before .before)))
+
+returns-2 : tie.Need-returns-2
 returns-2 c =
-    let found = c .before .before .before in (
-      search needs,
-      reads-refused (c .refused2 .ensures .0 ∙ c .before .enum-told .given .1)
-          (refused-from (line-at found)
-          (generators-refused _ _ _ (is-g (g-key found)) (search needs) (was-refused (line-answer found) (c .before .enum-told .given .1)))),
+    let at = c .before .before .before in
+    let gs = read at .0 in
+    let ended : (eqb (length gs) 0 || begins (bytes "g=") (rest at)) ≡ true =
+    ⊎-elim (λ w. ap (λ b. b || begins (bytes "g=") (rest at)) (eq-eqb (length gs) 0 (counted at ∙ w .taken)))
+    (λ w. ap (λ b. eqb (length gs) 0 || b)
+    (ap (begins (bytes "g=")) (sym (tail-of (at .answer .given .0 .0) (s (start (found at))))) ∙ sym (w .2 .ensures) ∙ w .3 .taken)
+    ∙ or-true (eqb (length gs) 0)) (c .before .if1 .came) in (
+      few (found at),
+      reads-refused (ap (λ m. Lines.Refused (Refusal.GeneratorCount (firstGeneratorAt + m))) (sym (counted at)))
+          (stop-mapped countedRows (generators-miscounted _ _ _ (read at .1) ended)),
     )
 
-add-used : tie.Need-add-used Inv-loop μ-loop
-add-used c =
-    let found = c .before .before in
-    let behind = line-at (found .before .before) in
-    omega (arith, line-read found .within, length-drop (behind .loop .used) (s behind))
-
-loop-again : tie.Need-loop-again Inv-loop μ-loop
-loop-again c =
-    let found = c .before .before in
-    let behind = line-at (found .before .before) in (
-      search needs,
-      progress-row 32 (generatorsLeft (n behind)) (s behind) (so-far behind) _ _ (search needs) (line-read found .within)
-          (generators-row _ _ _ (is-g (g-key (found .before .before))) (search needs) (line-read found .gives)),
-    )
-
-returns-3 : tie.Need-returns-3 Inv-loop μ-loop
+returns-3 : tie.Need-returns-3
 returns-3 c =
-    let found = c .before .before in
-    let behind = key-at (found .before) in (
-      search needs,
-      reads-refused (c .refused3 .ensures .0)
-          (refused-from behind (ap (λ m. generatorsLeft (n behind) m (left behind)) (c .before .if2 .taken) ∙ no-generator _ _ (not-g found))),
-    )
-
-returns-4 : tie.Need-returns-4 Inv-loop μ-loop
-unfolding mapped continue done
-returns-4 c =
-    let found = c .before in
-    let behind = key-at (found .before) in
-    let h = so-far behind in (
-      search needs,
-      reads-read refl (h .within)
-          (ap (mapped countedRows)
-          (sym (generators-all (n behind) (s behind))
-          ∙ progress-end 32 (generatorsLeft (n behind)) (s behind) h (generators-end _ _ _ (c .if2 .left) (not-g found)))
-          ∙ ap (λ m. got (m, filled 32 (h .read)) (left behind)) (h .counted) ∙ ap (λ rows. got (count behind, rows) (left behind)) (sym (h .held))),
+    let behind = c .before in
+    let none = behind .before .before in
+    let at = none .before .before in
+    let gs = read at .0 in
+    let ended : (eqb (length gs) 0 || begins (bytes "g=") (rest at)) ≡ false =
+    ap (λ b. b || begins (bytes "g=") (rest at)) (ne-eqb (length gs) 0 (λ e. none .if1 .left (sym (counted at) ∙ e)))
+    ∙ ap (begins (bytes "g=")) (sym (tail-of (at .answer .given .0 .0) (s (start (found at))))) ∙ sym (behind .begins-row .ensures)
+    ∙ c .if2 .left in (
+      few (found at),
+      reads-read (at .answer .given .1) (reached at .within)
+          (then-mapped countedRows (generators-counted _ _ _ (read at .1) ended) ∙ ap (λ held. got held (rest at)) (read at .2)),
     )
 
 pub generator-lines-spec : {M : Type 1} → statement M
 generator-lines-spec =
     tie.close
     (tie.spec
-    Inv-loop
-    μ-loop
     (λ c κs. search needs)
-    loop-holds
+    rows-up-to-requires
     (λ c. search needs)
     (λ c. search needs)
-    (λ c. search needs)
-    (λ c κs. search needs)
-    (λ c. search needs)
-    (λ c. search needs)
-    (λ c κs. search needs)
     returns
-    (λ c. search needs)
-    (λ c. search needs)
-    (λ c. search needs)
-    (λ c. search needs)
-    (λ c κs. search needs)
-    (λ c. search needs)
+    sub-begins-row
+    part-begins-row-start
     (λ c. search needs)
     (λ c κs. search needs)
+    add-t17
     returns-2
-    (λ c. search needs)
-    (λ c. search needs)
-    (λ c. search needs)
-    add-used
-    (λ c. search needs)
-    loop-again
-    (λ c κs. search needs)
-    returns-3
-    returns-4)
+    returns-3)

@@ -1,51 +1,61 @@
 -- x, z and w in turn; each that is refused ends it. What is known behind each has a name.
 use mathlib.Core.List.{List}
-use mathlib.Core.Path.{_≡_, refl, ap}
-use Prim.Native.Nat.{ℕ, _+_, _-_, _*_}
+use mathlib.Core.Path.{_≡_, refl, ap, sym, _∙_}
+use Prim.Native.Nat.{ℕ, _+_, _*_, _≤_}
 use native.Mathlib.Nat.{lt-of-le-of-lt}
 use native.Mathlib.Omega.{arith}
 use borrow.Author.Needs.{needs}
 use lib.ListN.{length, drop}
 use Rattle.pauli.specs.declared.Pauli.{Pauli}
 use Rattle.sheet.specs.Reader.{Reader, logicalLines, claimLine}
-use Rattle.sheet.specs.Record.{filled, claimAt, logicalsAt, generatorsAt, logicalCount}
+use Rattle.sheet.specs.Record.{mostQubits, logicalRoom, pairCount, filled}
+use Rattle.sheet.proofs.Parts.{tail-of}
+use Rattle.lines.specs.Answers.{rowAnswer, withinQubits}
 use Rattle.reader.specs.Answers.{Reads, mapped, countedRows}
-use Rattle.reader.proofs.Lines.{Reached, was-read, was-refused, on-tail, reached-more}
+use Rattle.reader.proofs.Reached.{Reached, was-read, was-refused, on-tail, reached-more, claim-reads}
 use Rattle.reader.proofs.Sheets.{x-refused, z-refused, w-refused, w-read, sheet-refused, sheet-read}
 use Rattle.reader.proofs.lines_after.Statement.{statement}
 use Rattle.reader.proofs.lines_after.Tie as tie
 
--- ---- the readers, of n qubits and r generators
+-- ---- the readers, of n qubits and k pairs of logicals, from the line `at` on
 
-abbrev s : tie.Start → List ℕ
-s c = c .args .s .now
+abbrev first : tie.After-pair-count → tie.Start
+first c = c .before .before
 
-abbrev n : tie.Start → ℕ
-n c = c .args .n
+abbrev s : tie.After-pair-count → List ℕ
+s c = first c .args .s .now
 
-abbrev r : tie.Start → ℕ
-r c = c .args .generators .count
+abbrev n : tie.After-pair-count → ℕ
+n c = first c .args .n
 
-abbrev k : tie.Start → ℕ
-k c = n c - r c
+abbrev at : tie.After-pair-count → ℕ
+at c = first c .args .at
 
-abbrev x-lines : tie.Start → Reader (List Pauli)
-x-lines c t = mapped (filled 24) (logicalLines (k c) "x=" (n c) (3 + r c) t)
+abbrev k : tie.After-pair-count → ℕ
+k c = c .pair-count .result
 
-abbrev z-lines : tie.Start → Reader (List Pauli)
-z-lines c t = mapped (filled 24) (logicalLines (k c) "z=" (n c) (3 + r c + k c) t)
+few : (c : tie.After-pair-count) → k c ≤ mostQubits
+unfolding pairCount
+few c = omega (arith, c .pair-count .ensures, first c .pre .0)
 
-abbrev w-line : tie.Start → Reader Pauli
-w-line c = claimLine (n c) (3 + r c + 2 * k c)
+abbrev x-lines : tie.After-pair-count → Reader (List Pauli)
+x-lines c t = mapped (filled logicalRoom) (logicalLines (k c) "x=" (n c) (at c) t)
+
+abbrev z-lines : tie.After-pair-count → Reader (List Pauli)
+z-lines c t = mapped (filled logicalRoom) (logicalLines (k c) "z=" (n c) (at c + k c) t)
+
+abbrev w-line : tie.After-pair-count → Reader Pauli
+w-line c = claimLine (n c) (at c + 2 * k c)
 
 -- the generators that are held, as they were read
-counted : (c : tie.Start) (gs : List Pauli) → countedRows gs ≡ (r c, c .args .generators .rows) → length gs ≡ r c
-counted c gs e = ap (λ p. p .0) e
+paired : (c : tie.After-pair-count) (gs : List Pauli) → countedRows gs ≡ (first c .args .generators .count, first c .args .generators .rows)
+    → pairCount (n c) (length gs) ≡ k c
+paired c gs e = ap (λ p. pairCount (n c) (p .0)) e ∙ sym (c .pair-count .ensures)
 
 -- ---- x
 
-abbrev start-x : tie.After-answer → tie.Start
-start-x c = c .before .before .before .before
+abbrev start-x : tie.After-answer → tie.After-pair-count
+start-x c = c .before .before .before
 
 abbrev to-z : tie.After-answer → ℕ
 to-z c = c .answer .given .0 .0
@@ -68,7 +78,7 @@ z-answer c = on-tail (z-lines (start-x (behind-x c))) (to-z (behind-x c)) (s (st
 abbrev x-of-z : tie.After-answer2 → tie.After-answer
 x-of-z c = behind-x (c .before .before)
 
-abbrev start-z : tie.After-answer2 → tie.Start
+abbrev start-z : tie.After-answer2 → tie.After-pair-count
 start-z c = start-x (x-of-z c)
 
 abbrev to-w : tie.After-answer2 → ℕ
@@ -83,7 +93,7 @@ z-read c = reached-more (x-read (x-of-z c) .within) (z-answer (c .before .before
 abbrev behind-z : tie.After-claim-line → tie.After-answer2
 behind-z c = c .before .before .before
 
-abbrev start-w : tie.After-claim-line → tie.Start
+abbrev start-w : tie.After-claim-line → tie.After-pair-count
 start-w c = start-z (behind-z c)
 
 abbrev bytes-w : tie.After-claim-line → List ℕ
@@ -91,12 +101,17 @@ bytes-w c = drop (to-w (behind-z c)) (s (start-w c))
 
 w-answer : (c : tie.After-claim-line)
     → Reads (bytes-w c) (c .claim-line .result .answer) (c .claim-line .result .row) (w-line (start-w c) (bytes-w c))
-w-answer c = on-tail (w-line (start-w c)) (to-w (behind-z c)) (s (start-w c)) (c .claim-line .ensures)
+w-answer c =
+    let begin = start-w c in
+    let line = at begin + 2 * k begin in
+    claim-reads (n begin) line (bytes-w c) (first begin .pre .0)
+    (c .claim-line .ensures
+    ∙ ap (λ t. rowAnswer t (withinQubits (n begin) line (claimLine (n begin) line) t)) (tail-of (to-w (behind-z c)) (s begin)))
 
 abbrev z-of-w : tie.After-answer3 → tie.After-answer2
 z-of-w c = behind-z (c .before .before)
 
-abbrev start-end : tie.After-answer3 → tie.Start
+abbrev start-end : tie.After-answer3 → tie.After-pair-count
 start-end c = start-z (z-of-w c)
 
 claim-read : (c : tie.After-answer3)
@@ -106,12 +121,16 @@ claim-read c = reached-more (z-read (z-of-w c) .within) (w-answer (c .before .be
 
 -- ---- the needs
 
+logical-lines-requires : tie.Need-logical-lines-requires
+logical-lines-requires c κs = (first c .pre .0, (few c, omega (arith, first c .pre .1)))
+
 returns : tie.Need-returns
 returns c =
     let found = c .before .before .before in
-    let first = found .before .before in
+    let begin = found .before in
     λ gs e. sheet-refused (c .refused .ensures) (c .before .enum-told .given .1)
-    (x-refused (n first) (first .args .d) gs (r first) (counted first gs e) (s first) (was-refused (found .logical-lines .ensures) (c .before .enum-told .given .1)))
+    (x-refused (n begin) (first begin .args .d) (at begin) gs (k begin) (paired begin gs e) (s begin)
+    (was-refused (found .logical-lines .ensures) (c .before .enum-told .given .1)))
 
 sub-logical-lines : tie.Need-sub-logical-lines
 sub-logical-lines c = x-read (c .before) .within
@@ -119,16 +138,29 @@ sub-logical-lines c = x-read (c .before) .within
 part-logical-lines-start : tie.Need-part-logical-lines-start
 part-logical-lines-start c = x-read (c .before) .within
 
+add-logical-lines : tie.Need-add-logical-lines
+add-logical-lines c = let begin = start-x (c .before .before) in omega (arith, few begin, first begin .pre .1)
+
+logical-lines-requires-2 : tie.Need-logical-lines-requires-2
+logical-lines-requires-2 c κs =
+    let begin = start-x (c .before .before) in (first begin .pre .0, (few begin, omega (arith, few begin, first begin .pre .1)))
+
 returns-2 : tie.Need-returns-2
 returns-2 c =
     let found = c .before .before .before in
-    let first = start-x (behind-x found) in
+    let begin = start-x (behind-x found) in
     λ gs e. sheet-refused (c .refused2 .ensures) (c .before .enum-told2 .given .1)
-    (z-refused (n first) (first .args .d) gs (r first) (counted first gs e) (s first) (x-read (behind-x found) .gives)
+    (z-refused (n begin) (first begin .args .d) (at begin) gs (k begin) (paired begin gs e) (s begin) (x-read (behind-x found) .gives)
     (was-refused (z-answer found) (c .before .enum-told2 .given .1)))
 
 add-to-w : tie.Need-add-to-w
-add-to-w c = record { fits = lt-of-le-of-lt (z-read (c .before) .within) (start-z (c .before) .good .0 .0) }
+add-to-w c = record { fits = lt-of-le-of-lt (z-read (c .before) .within) (first (start-z (c .before)) .good .0 .0) }
+
+mul-claim-at : tie.Need-mul-claim-at
+mul-claim-at c = omega (arith, few (start-z (c .before)))
+
+add-claim-at : tie.Need-add-claim-at
+add-claim-at c = let begin = start-z (c .before) in omega (arith, few begin, first begin .pre .1)
 
 sub-claim-line : tie.Need-sub-claim-line
 sub-claim-line c = z-read (c .before) .within
@@ -139,32 +171,30 @@ part-claim-line-start c = z-read (c .before) .within
 returns-3 : tie.Need-returns-3
 returns-3 c =
     let found = c .before .before .before in
-    let first = start-w found in
+    let begin = start-w found in
     λ gs e. sheet-refused (c .refused3 .ensures) (c .before .enum-told3 .given .1)
-    (w-refused (n first) (first .args .d) gs (r first) (counted first gs e) (s first) (x-read (x-of-z (behind-z found)) .gives) (z-read (behind-z found) .gives)
-    (was-refused (w-answer found) (c .before .enum-told3 .given .1)))
+    (w-refused (n begin) (first begin .args .d) (at begin) gs (k begin) (paired begin gs e) (s begin) (x-read (x-of-z (behind-z found)) .gives)
+    (z-read (behind-z found) .gives) (was-refused (w-answer found) (c .before .enum-told3 .given .1)))
 
-add-t22 : tie.Need-add-t22
-add-t22 c =
+add-t25 : tie.Need-add-t25
+add-t25 c =
     let found = c .before .before .before .before .before in
-    record { fits = lt-of-le-of-lt (claim-read found .within) (start-end found .good .0 .0) }
+    record { fits = lt-of-le-of-lt (claim-read found .within) (first (start-end found) .good .0 .0) }
 
 returns-4 : tie.Need-returns-4
-unfolding claimAt logicalsAt generatorsAt logicalCount
 returns-4 c =
     let found = c .before .before .before .before .before in
-    let first = start-end found in
-    λ gs e. sheet-read refl (omega arith) (claim-read found .within)
-    (w-read (n first) (first .args .d) gs (r first) (counted first gs e) (s first) (x-read (x-of-z (z-of-w found)) .gives) (z-read (z-of-w found) .gives)
-    (ap (λ p. p .1) e) (claim-read found .gives))
+    let begin = start-end found in
+    λ gs e. sheet-read refl (claim-read found .within)
+    (w-read (n begin) (first begin .args .d) (at begin) gs (k begin) (paired begin gs e) (s begin) (x-read (x-of-z (z-of-w found)) .gives)
+    (z-read (z-of-w found) .gives) e (claim-read found .gives))
 
 pub lines-after-spec : {M : Type 1} → statement M
 lines-after-spec =
     tie.close
     (tie.spec
-    (λ c. search needs)
-    (λ c. search needs)
     (λ c κs. search needs)
+    logical-lines-requires
     (λ c. search needs)
     (λ c. search needs)
     (λ c κs. search needs)
@@ -172,27 +202,22 @@ lines-after-spec =
     sub-logical-lines
     part-logical-lines-start
     (λ c. search needs)
-    (λ c. search needs)
-    (λ c. search needs)
-    (λ c κs. search needs)
+    add-logical-lines
+    logical-lines-requires-2
     (λ c. search needs)
     (λ c. search needs)
     (λ c κs. search needs)
     returns-2
     add-to-w
+    mul-claim-at
+    add-claim-at
     sub-claim-line
     part-claim-line-start
-    (λ c. search needs)
-    (λ c. search needs)
-    (λ c. search needs)
     (λ c. search needs)
     (λ c κs. search needs)
     (λ c. search needs)
     (λ c. search needs)
     (λ c κs. search needs)
     returns-3
-    add-t22
-    (λ c. search needs)
-    (λ c. search needs)
-    (λ c. search needs)
+    add-t25
     returns-4)

@@ -5,7 +5,7 @@ use Rattle.reader.proofs.refused.Statement.{statement}
 use Rattle.reader.proofs.refused.Tie as tie
 
 returns : tie.Need-returns
-returns c = ap (λ code. record { answer = c .before .args .answer; next = 0; code = code }) (c .empty .ensures)
+returns c = ap (λ code. record { answer = c .before .args .answer; «claim_at» = 0; code = code }) (c .empty .ensures)
 
 pub refused-spec : {M : Type 1} → statement M
 refused-spec = tie.close (tie.spec (λ c κs. search needs) returns)

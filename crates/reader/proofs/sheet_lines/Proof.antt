@@ -1,17 +1,20 @@
 -- n, d, the g lines and what follows them in turn; each that is refused ends it. What is known behind each line has a name.
 use mathlib.Core.List.{List}
-use mathlib.Core.Path.{_≡_}
-use Prim.Native.Nat.{ℕ, _+_}
+use mathlib.Core.Path.{_≡_, ap, _∙_}
+use Prim.Native.Nat.{ℕ, _+_, _≤_}
+use native.Mathlib.Omega.{arith}
 use native.Mathlib.Nat.{lt-of-le-of-lt}
 use borrow.Author.Needs.{needs}
 use lib.ListN.{drop}
 use Rattle.pauli.specs.declared.Pauli.{Pauli}
-use Rattle.sheet.specs.declared.Code.{Code}
-use Rattle.sheet.specs.Reader.{Reader, qubitLine, distanceLine, allGeneratorLines, linesAfter, sheetLines}
+use Rattle.sheet.specs.Reader.{Reader, SheetRead, qubitLine, distanceLine, generatorLines, linesAfter, sheetLines}
+use Rattle.sheet.specs.Record.{mostQubits, mostGenerators, firstGeneratorAt}
 use Rattle.sheet.proofs.Outcome.{what-was-got}
-use Rattle.sheet.proofs.Consumed.{qubit-line-outcome}
+use Rattle.sheet.proofs.Consumed.{qubit-line-outcome, distance-line-outcome}
+use Rattle.sheet.proofs.Parts.{tail-of}
+use Rattle.lines.specs.Answers.{numberAnswer}
 use Rattle.reader.specs.Answers.{Reads, ReadsSheet, mapped, countedRows}
-use Rattle.reader.proofs.Lines.{Reached, was-read, was-refused, on-tail, reached-more}
+use Rattle.reader.proofs.Reached.{Reached, was-read, was-refused, on-tail, reached-more, number-reads}
 use Rattle.reader.proofs.Sheets.{n-refused, d-refused, g-refused, g-read, sheet-refused, sheet-on-tail, sheet-refused-behind, sheet-read-behind}
 use Rattle.reader.proofs.sheet_lines.Statement.{statement}
 use Rattle.reader.proofs.sheet_lines.Tie as tie
@@ -30,8 +33,15 @@ to-d c = c .answer .given .0 .0
 abbrev n : tie.After-answer → ℕ
 n c = c .before .before .qubit-line .result .number
 
+n-answer : (c : tie.After-qubit-line)
+    → Reads (c .before .before .args .s .now) (c .qubit-line .result .answer) (c .qubit-line .result .number) (qubitLine (c .before .before .args .s .now))
+n-answer c = let t = c .before .before .args .s .now in number-reads t (qubit-line-outcome t) (c .qubit-line .ensures)
+
 n-read : (c : tie.After-answer) → Reached (s c) (to-d c) (n c) (qubitLine (s c))
-n-read c = was-read (c .before .before .qubit-line .ensures) (c .answer .given .1)
+n-read c = was-read (n-answer (c .before .before)) (c .answer .given .1)
+
+few : (c : tie.After-answer) → (2 ≤ n c) × (n c ≤ mostQubits)
+few c = what-was-got (qubit-line-outcome (s c)) (n-read c .gives) .lawful
 
 -- ---- d
 
@@ -43,7 +53,10 @@ d c = c .distance-line .result .number
 
 d-answer : (c : tie.After-distance-line)
     → Reads (drop (to-d (behind-n c)) (s (behind-n c))) (c .distance-line .result .answer) (d c) (distanceLine (drop (to-d (behind-n c)) (s (behind-n c))))
-d-answer c = on-tail distanceLine (to-d (behind-n c)) (s (behind-n c)) (c .distance-line .ensures)
+d-answer c =
+    let t = drop (to-d (behind-n c)) (s (behind-n c)) in
+    number-reads t (distance-line-outcome t)
+    (c .distance-line .ensures ∙ ap (λ t. numberAnswer t (distanceLine t)) (tail-of (to-d (behind-n c)) (s (behind-n c))))
 
 abbrev n-of-d : tie.After-answer2 → tie.After-answer
 n-of-d c = behind-n (c .before .before)
@@ -67,9 +80,9 @@ abbrev held : tie.After-generator-lines → ℕ × List Pauli
 held c = (c .generator-lines .result .count, c .generator-lines .result .rows)
 
 g-answer : (c : tie.After-generator-lines)
-    → Reads (bytes-g c) (c .generator-lines .result .answer) (held c) (mapped countedRows (allGeneratorLines (n (n-of-d (behind-d c))) (bytes-g c)))
+    → Reads (bytes-g c) (c .generator-lines .result .answer) (held c) (mapped countedRows (generatorLines (n (n-of-d (behind-d c))) firstGeneratorAt (bytes-g c)))
 g-answer c =
-    on-tail (λ t. mapped countedRows (allGeneratorLines (n (n-of-d (behind-d c))) t)) (to-g (behind-d c)) (s (n-of-d (behind-d c)))
+    on-tail (λ t. mapped countedRows (generatorLines (n (n-of-d (behind-d c))) firstGeneratorAt t)) (to-g (behind-d c)) (s (n-of-d (behind-d c)))
     (c .generator-lines .ensures .1)
 
 abbrev d-of-g : tie.After-answer3 → tie.After-answer2
@@ -82,22 +95,27 @@ abbrev to-x : tie.After-answer3 → ℕ
 to-x c = to-g (d-of-g c) + c .answer3 .given .0 .0
 
 generators-read : (c : tie.After-answer3)
-    → Reached (s (n-of-g c)) (to-x c) (held (c .before .before)) (mapped countedRows (allGeneratorLines (n (n-of-g c)) (bytes-g (c .before .before))))
+    → Reached (s (n-of-g c)) (to-x c) (held (c .before .before)) (mapped countedRows (generatorLines (n (n-of-g c)) firstGeneratorAt (bytes-g (c .before .before))))
 generators-read c = reached-more (d-read (d-of-g c) .within) (g-answer (c .before .before)) (c .answer3 .given .1)
+
+generators-few : (c : tie.After-answer3) → c .before .before .generator-lines .result .count ≤ mostQubits
+unfolding mostGenerators
+generators-few c = omega (arith, c .before .before .generator-lines .ensures .0, few (n-of-g c) .1)
 
 -- ---- what follows
 
 abbrev bytes-x : tie.After-answer3 → List ℕ
 bytes-x c = drop (to-x c) (s (n-of-g c))
 
-abbrev tail : tie.After-answer3 → List Pauli → Reader Code
-tail c gs = linesAfter (n (n-of-g c)) (d (d-of-g c .before .before)) gs
+abbrev tail : tie.After-answer3 → List Pauli → Reader SheetRead
+tail c gs =
+    linesAfter (n (n-of-g c)) (d (d-of-g c .before .before)) (firstGeneratorAt + c .before .before .generator-lines .result .count) gs
 
 to-tail : (c : tie.After-answer3) → (gs : List Pauli) × (countedRows gs ≡ held (c .before .before)) × (sheetLines (s (n-of-g c)) ≡ tail c gs (bytes-x c))
 to-tail c = g-read (s (n-of-g c)) (n-read (n-of-g c) .gives) (d-read (d-of-g c) .gives) (generators-read c .gives)
 
 abbrev behind-g : tie.After-lines-after → tie.After-answer3
-behind-g c = c .before .before .before
+behind-g c = c .before .before .before .before
 
 tail-reading : (c : tie.After-lines-after)
     → ReadsSheet (bytes-x (behind-g c)) (c .lines-after .result) (tail (behind-g c) (to-tail (behind-g c) .0) (bytes-x (behind-g c)))
@@ -110,7 +128,7 @@ tail-reading c =
 returns : tie.Need-returns
 returns c =
     sheet-refused (c .refused .ensures) (c .before .enum-told .given .1)
-    (n-refused _ (was-refused (c .before .before .before .qubit-line .ensures) (c .before .enum-told .given .1)))
+    (n-refused _ (was-refused (n-answer (c .before .before .before)) (c .before .enum-told .given .1)))
 
 sub-distance-line : tie.Need-sub-distance-line
 sub-distance-line c = n-read (c .before) .within
@@ -134,7 +152,7 @@ part-generator-lines-start : tie.Need-part-generator-lines-start
 part-generator-lines-start c = d-read (c .before) .within
 
 generator-lines-requires : tie.Need-generator-lines-requires
-generator-lines-requires c κs = let behind = n-of-d (c .before .before) in what-was-got (qubit-line-outcome (s behind)) (n-read behind .gives) .lawful
+generator-lines-requires c κs = few (n-of-d (c .before .before)) .1
 
 returns-3 : tie.Need-returns-3
 returns-3 c =
@@ -146,24 +164,26 @@ returns-3 c =
 add-to-x : tie.Need-add-to-x
 add-to-x c = record { fits = lt-of-le-of-lt (generators-read (c .before) .within) (start (n-of-g (c .before)) .good .0 .0) }
 
+add-at : tie.Need-add-at
+add-at c = omega (arith, generators-few (c .before .before))
+
 sub-lines-after : tie.Need-sub-lines-after
-sub-lines-after c = generators-read (c .before) .within
+sub-lines-after c = generators-read (c .before .before) .within
 
 part-lines-after-start : tie.Need-part-lines-after-start
-part-lines-after-start c = generators-read (c .before) .within
+part-lines-after-start c = generators-read (c .before .before) .within
 
 lines-after-requires : tie.Need-lines-after-requires
 lines-after-requires c κs =
-    let behind = n-of-g (c .before .before) in
-    (what-was-got (qubit-line-outcome (s behind)) (n-read behind .gives) .lawful .1, c .before .before .before .before .generator-lines .ensures .0)
+    let behind = c .before .before .before in (few (n-of-g behind) .1, omega (arith, generators-few behind))
 
 returns-4 : tie.Need-returns-4
 returns-4 c =
     let found = c .before .before in
     sheet-refused-behind (to-x (behind-g found)) _ (tail-reading found) (to-tail (behind-g found) .2) (c .enum-told4 .given .1)
 
-add-t19 : tie.Need-add-t19
-add-t19 c =
+add-t20 : tie.Need-add-t20
+add-t20 c =
     let found = c .before .before .before .before in
     let behind = behind-g found in
     record {
@@ -205,6 +225,7 @@ sheet-lines-spec =
     (λ c κs. search needs)
     returns-3
     add-to-x
+    add-at
     sub-lines-after
     part-lines-after-start
     (λ c. search needs)
@@ -212,5 +233,5 @@ sheet-lines-spec =
     (λ c. search needs)
     (λ c. search needs)
     returns-4
-    add-t19
+    add-t20
     returns-5)

@@ -1,0 +1,4 @@
+pub mod Values
+pub mod Keys
+pub mod Lines
+pub mod Reading

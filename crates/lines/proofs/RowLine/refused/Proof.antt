@@ -1,0 +1,15 @@
+-- The answer is the refusal, and +I stands beside it.
+use mathlib.Core.Path.{ap}
+use borrow.Author.Needs.{needs}
+use Rattle.sheet.specs.declared.Lines.{Lines}
+use Rattle.sheet.specs.declared.Refusal.{Refusal}
+use Rattle.lines.specs.Answers.{rowAnswer, linesOf, valueOr}
+use Rattle.lines.proofs.RowLine.refused.Statement.{statement}
+use Rattle.lines.proofs.RowLine.refused.Tie as tie
+
+returns : tie.Need-returns
+unfolding rowAnswer linesOf valueOr
+returns c = λ s. ap (λ P. record { answer = Lines.Refused (Refusal.Form (c .before .args .at)); row = P }) (c .identity .ensures)
+
+pub refused-spec : {M : Type 1} → statement M
+refused-spec = tie.close (tie.spec (λ c κs. search needs) returns)
