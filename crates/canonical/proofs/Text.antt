@@ -1,4 +1,5 @@
--- The text of a record's canonical generators, where the record passes 15 and 6 to 8: its lines, their length, and what the call answers.
+-- The text of a record's canonical generators, where the record passes 15 and 6 to 8: its lines, their length, and what
+-- the call answers.
 use mathlib.Core.List.{List}
 use mathlib.Core.Option.{none}
 use mathlib.Core.Path.{_≡_, refl, ap, sym, _∙_}
@@ -9,21 +10,22 @@ use Rattle.pauli.specs.Lists.{bytes}
 use Rattle.sheet.specs.declared.Code.{Code}
 use Rattle.sheet.specs.declared.Refusal.{Refusal}
 use Rattle.sheet.specs.declared.Written.{Written}
-use Rattle.sheet.specs.Record.{generators}
+use Rattle.sheet.specs.Record.{mostQubits, generators}
 use Rattle.sheet.specs.Text.{laid, untouched}
 use Rattle.sheet.specs.Writer.{rowLines}
 use Rattle.sheet.proofs.Lengths.{length-rowLines}
 use Rattle.sheet.proofs.Limits.{limits}
-use Rattle.writer.proofs.Written.{written-short, written-whole}
+use Rattle.sheet.proofs.WrittenText.{written-short, written-whole}
 use Rattle.stabilizer.specs.Canonical.{canonicalGenerators, canonicalText, writeCanonical}
 use Rattle.stabilizer.specs.Checks.{groupFault}
+use Rattle.stabilizer.proofs.Independent.{canonical-length-le}
 use Rattle.elimination.specs.declared.ReducedRows.{ReducedRows}
 use Rattle.elimination.specs.Answers.{rowsIn, reducedOf}
 use Rattle.elimination.proofs.Rows.{rows-of}
-use Rattle.elimination.proofs.Signs.{passed-within, passed-independent}
+use Rattle.elimination.proofs.Signs.{passed-within}
 
 module _ (c : Code) (passes : none ≡ groupFault c) where
-  pub qubits-few : (c .n ≤ 24) × (c .r < 24)
+  pub qubits-few : (2 ≤ c .n) × (c .n ≤ mostQubits) × (c .r < mostQubits)
   qubits-few = let l = limits c (passed-within c passes) in omega (arith, l .qubits, l .generatorCount)
 
   pub too-short : (buffer : List ℕ) → length buffer < length (canonicalText c)
@@ -32,7 +34,8 @@ module _ (c : Code) (passes : none ≡ groupFault c) where
   too-short buffer short = written-short (canonicalText c) buffer (sym passes) short
 
   pub has-room : (buffer : List ℕ) → length (canonicalText c) ≤ length buffer
-      → writeCanonical c buffer ≡ record { answer = Written.Count (length (canonicalText c)); buffer = laid (canonicalText c) buffer }
+      → writeCanonical c buffer
+      ≡ record { answer = Written.Count (length (canonicalText c)); buffer = laid (canonicalText c) buffer }
   unfolding writeCanonical
   has-room buffer room = written-whole (canonicalText c) buffer (sym passes) room
 
@@ -43,9 +46,11 @@ module _ (c : Code) (passes : none ≡ groupFault c) where
 
     pub count-few : hs .count ≤ c .r
     unfolding reducedOf generators
-    count-few = omega (arith, ap (λ r. r .count) found, passed-independent c passes .count, length-take (c .r) (c .g))
+    count-few =
+        omega (arith, ap (λ r. r .count) found, canonical-length-le (c .n) (generators c), length-take (c .r) (c .g))
 
     pub length-is : length (canonicalText c) ≡ hs .count * (c .n + 4)
     unfolding canonicalText reducedOf bytes
     length-is =
-        length-rowLines "h=" (c .n) (canonicalGenerators (c .n) (generators c)) refl ∙ ap (λ (r : ReducedRows). r .count * (c .n + 4)) (sym found)
+        length-rowLines "h=" (c .n) (canonicalGenerators (c .n) (generators c)) refl
+        ∙ ap (λ (r : ReducedRows). r .count * (c .n + 4)) (sym found)

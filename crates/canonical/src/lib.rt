@@ -1,4 +1,4 @@
-// The canonical generators of a record, document 01's tidy rows, as text: an `h=` line for each.
+// The canonical generators of a record as text: an `h=` line for each.
 use elimination::Checked;
 use elimination::ReducedRows;
 use sheet::Code;
@@ -7,6 +7,7 @@ use sheet::Written;
 ghost use mathlib.Core.Path.{_≡_};
 ghost use Prim.Native.Nat.{_≤_};
 ghost use lib.ListN.{length};
+ghost use Rattle.sheet.specs.Record.{generatorRoom, mostQubits};
 ghost use Rattle.sheet.specs.Text.{laid};
 ghost use Rattle.sheet.specs.Writer.{rowLines};
 ghost use Rattle.sheet.specs.declared.Written.{Written as WrittenAnswer};
@@ -15,8 +16,9 @@ ghost use Rattle.elimination.specs.Answers.{rowsIn};
 
 // The lines of the rows, where there is room for them.
 fn canonical_lines(out: &mut [u8], n: usize, reduced: ReducedRows) -> Written
-    requires { ⌜ n ≤ 24 ⌝ }
-    requires { ⌜ reduced .count ≤ 32 ⌝ }
+    requires { ⌜ 2 ≤ n ⌝ }
+    requires { ⌜ n ≤ mostQubits ⌝ }
+    requires { ⌜ reduced .count ≤ generatorRoom ⌝ }
     requires { ⌜ length (rowLines "h=" n (rowsIn reduced)) ≤ length (now out) ⌝ }
     ensures { λ r. ⌜ r ≡ WrittenAnswer.Count (length (rowLines "h=" n (rowsIn reduced))) ⌝ }
     ensures { λ _. ⌜ now (out .exit) ≡ laid (rowLines "h=" n (rowsIn reduced)) (now (out .entry)) ⌝ }
@@ -35,8 +37,9 @@ fn canonical_lines(out: &mut [u8], n: usize, reduced: ReducedRows) -> Written
     Written::Count(end)
 }
 
-// The canonical generators of a record, into an output buffer: 15 where the record is outside its limits, then 6 to 8 with the lines of its written sheet, then 17
-// where the buffer is shorter than their lines, then the lines' bytes and their count. The bytes behind them stay, and a refusal leaves the whole buffer.
+// The canonical generators of a record, into an output buffer: 15 where the record is outside its limits, then 6 to 8
+// with the lines of its written sheet, then 17 where the buffer is shorter than their lines, then the lines' bytes and
+// their count. The bytes behind them stay, and a refusal leaves the whole buffer.
 pub fn write_canonical(code: Code, out: &mut [u8]) -> Written
     ensures { λ r. ⌜ r ≡ (writeCanonical code (now (out .entry))) .answer ⌝ }
     ensures { λ _. ⌜ now (out .exit) ≡ (writeCanonical code (now (out .entry))) .buffer ⌝ }

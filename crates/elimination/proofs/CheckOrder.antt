@@ -22,23 +22,28 @@ module _ (c : Code) where
   pub outside-limits : withinLimits c ≡ false → eliminated (some Refusal.RecordLimits) 0 [] ≡ elimination c
   unfolding elimination groupFault limitsFault refuseIf _then_ eliminated answered
   outside-limits outside =
-      ap (λ t. answered (refuseIf (not t) Refusal.RecordLimits then generatorFault (generators c))) (sym outside)
+      ap (λ t. answered (refuseIf (not t) Refusal.RecordLimits then generatorFault (generatorsAt c) (generators c)))
+      (sym outside)
 
   module _ (within : withinLimits c ≡ true) where
     -- What 6 finds comes first, then what 7 and 8 find.
-    found : {fault : Option Refusal} → fault ≡ firstFault clash [] generatorsAt (generators c)
-        → answered (fault then firstFault dependence [] generatorsAt (generators c)) ≡ elimination c
+    found : {fault : Option Refusal} → fault ≡ firstFault clash [] (generatorsAt c) (generators c)
+        → answered (fault then firstFault dependence [] (generatorsAt c) (generators c)) ≡ elimination c
     unfolding elimination groupFault limitsFault refuseIf _then_ generatorFault answered
     found e =
-        ap (λ fault. answered (fault then firstFault dependence [] generatorsAt (generators c))) e
-        ∙ ap (λ t. answered (refuseIf (not t) Refusal.RecordLimits then generatorFault (generators c))) (sym within)
+        ap (λ fault. answered (fault then firstFault dependence [] (generatorsAt c) (generators c))) e
+        ∙ ap (λ t. answered (refuseIf (not t) Refusal.RecordLimits then generatorFault (generatorsAt c) (generators c)))
+        (sym within)
 
-    pub clashing : {checked : Checked} {hs : ReducedRows} {refusal : Refusal} → checked ≡ Checked.Refused refusal → hs ≡ reducedOf 0 []
-        → checkedRefusal checked ≡ firstFault clash [] generatorsAt (generators c) → record { answer = checked; reduced = hs } ≡ elimination c
+    pub clashing : {checked : Checked} {hs : ReducedRows} {refusal : Refusal} → checked ≡ Checked.Refused refusal
+        → hs ≡ reducedOf 0 []
+        → checkedRefusal checked ≡ firstFault clash [] (generatorsAt c) (generators c)
+        → record { answer = checked; reduced = hs } ≡ elimination c
     unfolding _then_ eliminated answered
     clashing told e known =
-        ap₂ (λ answer hs. record { answer = answer; reduced = hs }) told e ∙ found (ap checkedRefusal (sym told) ∙ known)
+        ap₂ (λ answer hs. record { answer = answer; reduced = hs }) told e
+        ∙ found (ap checkedRefusal (sym told) ∙ known)
 
-    pub clash-free : none ≡ firstFault clash [] generatorsAt (generators c) → independence c ≡ elimination c
+    pub clash-free : none ≡ firstFault clash [] (generatorsAt c) (generators c) → independence c ≡ elimination c
     unfolding _then_ independence answered
     clash-free known = found known

@@ -14,15 +14,18 @@ use Rattle.pauli.specs.Product.{identity}
 use Rattle.stabilizer.proofs.Tests.{any-cons}
 
 module _ (rows : List Pauli) (count place : ℕ) where
-  pub taken-at : place < count → place < length rows → drop place (take count rows) ≡ getD rows place identity ∷ drop (place + 1) (take count rows)
+  pub taken-at : place < count → place < length rows
+      → drop place (take count rows) ≡ getD rows place identity ∷ drop (place + 1) (take count rows)
   taken-at few inside =
       drop-cons (take count rows) place identity (omega (arith, length-take count rows))
-      ∙ ap₂ _∷_ (getD-take count rows place identity few) (ap (λ (i : ℕ). drop i (take count rows)) (sym (add-one place)))
+      ∙ ap₂ _∷_ (getD-take count rows place identity few)
+      (ap (λ (i : ℕ). drop i (take count rows)) (sym (add-one place)))
 
   pub taken-end : (count ≤ place) ⊎ (length rows ≤ place) → drop place (take count rows) ≡ []
   taken-end end =
       let short = length-take count rows in
-      let past : length (take count rows) ≤ place = ⊎-elim (λ e. omega (arith, e, short)) (λ e. omega (arith, e, short)) end in
+      let past : length (take count rows) ≤ place =
+      ⊎-elim (λ e. omega (arith, e, short)) (λ e. omega (arith, e, short)) end in
       drop-of-length-le (take count rows) past
 
 -- A test of each of them.
@@ -30,10 +33,12 @@ module _ (test : Pauli → Bool) (rows : List Pauli) (count place : ℕ) where
   any-by : {t : Bool} → place < count → place < length rows → test (getD rows place identity) ≡ t
       → anyOf test (drop place (take count rows)) ≡ (t || anyOf test (drop (place + 1) (take count rows)))
   any-by few inside e =
-      ap (anyOf test) (taken-at rows count place few inside) ∙ any-cons test (getD rows place identity) (drop (place + 1) (take count rows))
+      ap (anyOf test) (taken-at rows count place few inside)
+      ∙ any-cons test (getD rows place identity) (drop (place + 1) (take count rows))
       ∙ ap (λ t. t || anyOf test (drop (place + 1) (take count rows))) e
 
-  pub any-here : place < count → place < length rows → test (getD rows place identity) ≡ true → anyOf test (drop place (take count rows)) ≡ true
+  pub any-here : place < count → place < length rows → test (getD rows place identity) ≡ true
+      → anyOf test (drop place (take count rows)) ≡ true
   any-here few inside e = any-by few inside e
 
   pub any-later : place < count → place < length rows → test (getD rows place identity) ≡ false

@@ -7,6 +7,7 @@ use native.Mathlib.Omega.{arith}
 use lib.Dec.{ltb}
 use lib.ListN.{length, drop, set, length-append}
 use Rattle.pauli.specs.declared.Pauli.{Pauli}
+use Rattle.sheet.specs.Record.{generatorRoom}
 use Rattle.stabilizer.specs.Canonical.{pivot, insertByPivot}
 use Rattle.elimination.specs.declared.ReducedRows.{ReducedRows}
 use Rattle.elimination.specs.Answers.{rowsIn, reducedOf}
@@ -34,15 +35,18 @@ module _ {n : ℕ} {hs : ReducedRows} {rest all : List Pauli} {size : ℕ} (g : 
   grown-count = ap (λ r. r .count) (g .held) ∙ g .sized
 
 -- One row is stored behind the others.
-pub grown-more : {n : ℕ} {hs : ReducedRows} {rest all : List Pauli} {size : ℕ} (h : Pauli) → Grown n hs (h ∷ rest) all size → size < 32
+pub grown-more : {n : ℕ} {hs : ReducedRows} {rest all : List Pauli} {size : ℕ} (h : Pauli)
+    → Grown n hs (h ∷ rest) all size → size < generatorRoom
     → Grown n (value (hs .n) (size + 1) (set (hs .rows) size h)) rest all (size + 1)
 unfolding reducedOf
 grown-more {n} {hs} {rest} {all} {size} h g room =
     record {
       rows = g .rows ++ h ∷ [];
       held =
-          ap (λ (i : ℕ). value (hs .n) (i + 1) (set (hs .rows) i h)) (sym (grown-count g)) ∙ pushed hs (grown-is g) h (omega (arith, grown-count g))
-          ∙ ap (λ r. reducedOf (r .n) (rowsIn r ++ h ∷ [])) (g .held) ∙ ap (λ rows. reducedOf n (rows ++ h ∷ [])) (rows-of n (g .rows));
+          ap (λ (i : ℕ). value (hs .n) (i + 1) (set (hs .rows) i h)) (sym (grown-count g))
+          ∙ pushed hs (grown-is g) h (omega (arith, grown-count g))
+          ∙ ap (λ r. reducedOf (r .n) (rowsIn r ++ h ∷ [])) (g .held)
+          ∙ ap (λ rows. reducedOf n (rows ++ h ∷ [])) (rows-of n (g .rows));
       joined = append-assoc (g .rows) (h ∷ []) rest ∙ g .joined;
       sized = omega (arith, length-append (g .rows) (h ∷ []), g .sized);
     }
@@ -53,7 +57,8 @@ grown-all {n = n} g = g .held ∙ ap (reducedOf n) (sym (append-nil (g .rows)) �
 -- ---- a row's place
 
 module _ (n : ℕ) (q h : Pauli) (hs : List Pauli) where
-  below-by : {t : Bool} → ltb (pivot n q) (pivot n h) ≡ t → belowPivot n q (h ∷ hs) ≡ elim t [ true ↦ [] | false ↦ h ∷ belowPivot n q hs ]
+  below-by : {t : Bool} → ltb (pivot n q) (pivot n h) ≡ t
+      → belowPivot n q (h ∷ hs) ≡ elim t [ true ↦ [] | false ↦ h ∷ belowPivot n q hs ]
   unfolding belowPivot
   below-by e = ap (λ t. elim t [ true ↦ [] | false ↦ h ∷ belowPivot n q hs ]) e
 
@@ -74,7 +79,8 @@ unfolding belowPivot insertByPivot
 inserted-behind n q [] = refl
 inserted-behind n q (h ∷ hs) = by (ltb (pivot n q) (pivot n h)) (inserted-behind n q hs)
   where
-    by : (t : Bool) → belowPivot n q hs ++ q ∷ drop (length (belowPivot n q hs)) hs ≡ insertByPivot n q hs → let below : List Pauli = elim t [ true ↦ [] | false ↦ h ∷ belowPivot n q hs ] in
+    by : (t : Bool) → belowPivot n q hs ++ q ∷ drop (length (belowPivot n q hs)) hs ≡ insertByPivot n q hs
+        → let below : List Pauli = elim t [ true ↦ [] | false ↦ h ∷ belowPivot n q hs ] in
         below ++ q ∷ drop (length below) (h ∷ hs) ≡ elim t [ true ↦ q ∷ h ∷ hs | false ↦ h ∷ insertByPivot n q hs ]
     by true rest = refl
     by false rest = ap (λ l. h ∷ l) rest
@@ -84,6 +90,7 @@ unfolding belowPivot
 length-below n q [] = omega arith
 length-below n q (h ∷ hs) = by (ltb (pivot n q) (pivot n h)) (length-below n q hs)
   where
-    by : (t : Bool) → length (belowPivot n q hs) ≤ length hs → length {A = Pauli} (elim t [ true ↦ [] | false ↦ h ∷ belowPivot n q hs ]) ≤ suc (length hs)
+    by : (t : Bool) → length (belowPivot n q hs) ≤ length hs
+        → length {A = Pauli} (elim t [ true ↦ [] | false ↦ h ∷ belowPivot n q hs ]) ≤ suc (length hs)
     by true rest = omega arith
     by false rest = omega arith

@@ -4,6 +4,7 @@ pub mod RowKinds
 pub mod CheckOrder
 pub mod ArrayLength
 pub mod Rows
+pub mod Numbers
 pub mod Signs
 pub mod Steps
 pub mod FirstRows

@@ -35,13 +35,17 @@ phase-decides Q none =
 module _ (Q : Pauli) where
   pub kind-independent : sameMasks Q identity ≡ false → Kind.Independent ≡ kindOf Q
   unfolding kindOf
-  kind-independent some = ap (λ t. cond t (cond (samePauli minusIdentity Q) Kind.MinusIdentity Kind.PlusIdentity) Kind.Independent) (sym some)
+  kind-independent some =
+      ap (λ t. cond t (cond (samePauli minusIdentity Q) Kind.MinusIdentity Kind.PlusIdentity) Kind.Independent)
+      (sym some)
 
-  kind-of-phase : {t : Bool} → sameMasks Q identity ≡ true → eqb 2 (Q .p % 4) ≡ t → cond t Kind.MinusIdentity Kind.PlusIdentity ≡ kindOf Q
+  kind-of-phase : {t : Bool} → sameMasks Q identity ≡ true → eqb 2 (Q .p % 4) ≡ t
+      → cond t Kind.MinusIdentity Kind.PlusIdentity ≡ kindOf Q
   unfolding kindOf
   kind-of-phase none e =
       ap (λ t. cond t Kind.MinusIdentity Kind.PlusIdentity) (sym (phase-decides Q none ∙ e))
-      ∙ ap (λ t. cond t (cond (samePauli minusIdentity Q) Kind.MinusIdentity Kind.PlusIdentity) Kind.Independent) (sym none)
+      ∙ ap (λ t. cond t (cond (samePauli minusIdentity Q) Kind.MinusIdentity Kind.PlusIdentity) Kind.Independent)
+      (sym none)
 
   pub kind-minus : sameMasks Q identity ≡ true → Q .p % 4 ≡ 2 → Kind.MinusIdentity ≡ kindOf Q
   kind-minus none e = kind-of-phase none (eq-eqb 2 (Q .p % 4) (sym e))
@@ -64,11 +68,14 @@ module _ (hs : ReducedRows) (P Q : Pauli) (left : Q ≡ reduced (hs .n) (rowsIn 
       ∙ ap (λ R. reducedOf (hs .n) (cond (sameMasks (modulo4 R) identity) (rowsIn hs) (inserted (modulo4 R)))) left)
 
   -- Nothing but a phase is left: the rows stay.
-  pub step-dependent : {kind : Kind} → IsReducedOf hs → sameMasks Q identity ≡ true → kind ≡ kindOf Q → addedOf kind hs ≡ addition hs P
+  pub step-dependent : {kind : Kind} → IsReducedOf hs → sameMasks Q identity ≡ true → kind ≡ kindOf Q
+      → addedOf kind hs ≡ addition hs P
   step-dependent is none found = stepped found none is
 
   -- What is left joins them.
   pub step-independent : {R : Pauli} {longer : ReducedRows} → sameMasks Q identity ≡ false → R ≡ modulo4 Q
-      → longer ≡ reducedOf (hs .n) (insertByPivot (hs .n) R (map (cleared (hs .n) R) (rowsIn hs))) → addedOf Kind.Independent longer ≡ addition hs P
+      → longer ≡ reducedOf (hs .n) (insertByPivot (hs .n) R (map (cleared (hs .n) R) (rowsIn hs)))
+      → addedOf Kind.Independent longer ≡ addition hs P
   unfolding inserted
-  step-independent some low e = stepped (kind-independent Q some) some (e ∙ ap (λ R. reducedOf (hs .n) (inserted R)) low)
+  step-independent some low e =
+      stepped (kind-independent Q some) some (e ∙ ap (λ R. reducedOf (hs .n) (inserted R)) low)

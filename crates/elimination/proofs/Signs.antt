@@ -1,4 +1,5 @@
--- Membership in a record's group: with its sign, from what the canonical generators leave of the row + with the given masks, and phase aside.
+-- Membership in a record's group: with its sign, from what the canonical generators leave of the row + with the given
+-- masks, and phase aside.
 use mathlib.Core.Bool.{Bool, true, false, cond, not}
 use mathlib.Core.List.{List}
 use mathlib.Core.Option.{Option, none, some}
@@ -12,23 +13,27 @@ use Rattle.pauli.specs.Letters.{rowOf}
 use Rattle.pauli.specs.Product.{identity, sameMasks, samePauli}
 use Rattle.sheet.specs.declared.Code.{Code}
 use Rattle.sheet.specs.declared.Refusal.{Refusal}
-use Rattle.sheet.specs.Record.{isRow, onQubits, generators, withinLimits, limitsFault}
+use Rattle.sheet.specs.Record.{isRow, onQubits, generators, generatorsAt, withinLimits, limitsFault}
 use Rattle.sheet.proofs.Limits.{limits}
 use Rattle.stabilizer.specs.Canonical.{reduced, reducesToIdentity, canonicalGenerators}
 use Rattle.stabilizer.specs.Checks.{minusIdentity, generatorFault, groupFault}
 use Rattle.stabilizer.specs.Group.{inGroupUpToPhase, memberSign}
 use Rattle.stabilizer.proofs.All.{all-of}
 use Rattle.stabilizer.proofs.Faults.{reducedSign, nothing-then, unrefused, faultless-independent, member-sign-reduced}
-use Rattle.stabilizer.proofs.Independent.{Independent, qubits-rows}
+use Rattle.stabilizer.proofs.Independent.{Independent}
+use Rattle.stabilizer.proofs.StabilizerRows.{qubits-rows}
 use Rattle.stabilizer.proofs.Theorems.{reduction-decides-membership}
 use Rattle.elimination.specs.declared.Checked.{Checked}
 use Rattle.elimination.specs.declared.Elimination.{Elimination}
 use Rattle.elimination.specs.declared.Kind.{Kind}
-use Rattle.elimination.specs.declared.Kind.the-variants.{Independent as IsIndependent, PlusIdentity, MinusIdentity}
+use Rattle.elimination.specs.declared.Kind.the-variants.{Independent as IsIndependent, PlusIdentity}
+use Rattle.elimination.specs.declared.Kind.the-variants.{MinusIdentity}
 use Rattle.elimination.specs.declared.Membership.{Membership}
-use Rattle.elimination.specs.Answers.{rowsIn, reducedOf, checkedRefusal, eliminated, elimination, memberAnswer, membership}
+use Rattle.elimination.specs.Answers.{rowsIn, reducedOf, checkedRefusal, eliminated, elimination, memberAnswer}
+use Rattle.elimination.specs.Answers.{membership}
 use Rattle.elimination.specs.Step.{kindOf}
 use Rattle.elimination.specs.Statements.{ContainsDecidesMembership}
+use Rattle.elimination.proofs.Numbers.{eliminated-refusal}
 use Rattle.elimination.proofs.Rows.{rows-of}
 
 -- ---- the sign of a kind
@@ -50,28 +55,25 @@ kind-member Q = by (sameMasks Q identity) (samePauli minusIdentity Q)
 
 -- ---- what an elimination tells
 
-answer-refusal : (fault : Option Refusal) (n : ℕ) (hs : List Pauli) → checkedRefusal (eliminated fault n hs .answer) ≡ fault
-unfolding eliminated
-answer-refusal none n hs = refl
-answer-refusal (some refusal) n hs = refl
-
 module _ (c : Code) {e : Elimination} (known : e ≡ elimination c) where
   pub fault-told : {checked : Checked} → e .answer ≡ checked → checkedRefusal checked ≡ groupFault c
   unfolding elimination
   fault-told told =
       ap checkedRefusal (sym told) ∙ ap (λ r. checkedRefusal (r .answer)) known
-      ∙ answer-refusal (groupFault c) (c .n) (canonicalGenerators (c .n) (generators c))
+      ∙ eliminated-refusal (groupFault c) (c .n) (canonicalGenerators (c .n) (generators c))
 
   pub rows-told : e .answer ≡ Checked.Passed → e .reduced ≡ reducedOf (c .n) (canonicalGenerators (c .n) (generators c))
   unfolding elimination eliminated
   rows-told told =
-      ap (λ r. r .reduced) known ∙ ap (λ fault. eliminated fault (c .n) (canonicalGenerators (c .n) (generators c)) .reduced) (sym (fault-told told))
+      ap (λ r. r .reduced) known
+      ∙ ap (λ fault. eliminated fault (c .n) (canonicalGenerators (c .n) (generators c)) .reduced)
+      (sym (fault-told told))
 
 -- A record that passes is within limits, and its generators are independent.
 module _ (c : Code) (passes : none ≡ groupFault c) where
-  parts : (limitsFault c ≡ none) × (generatorFault (generators c) ≡ none)
+  parts : (limitsFault c ≡ none) × (generatorFault (generatorsAt c) (generators c) ≡ none)
   unfolding groupFault
-  parts = nothing-then (limitsFault c) (generatorFault (generators c)) (sym passes)
+  parts = nothing-then (limitsFault c) (generatorFault (generatorsAt c) (generators c)) (sym passes)
 
   pub passed-within : withinLimits c ≡ true
   unfolding limitsFault
@@ -80,24 +82,28 @@ module _ (c : Code) (passes : none ≡ groupFault c) where
   pub passed-independent : Independent (c .n) (generators c)
   unfolding generators
   passed-independent =
-      faultless-independent (c .n) (generators c)
+      faultless-independent (c .n) (generatorsAt c) (generators c)
       (all-of (isRow (c .n)) (take (c .r) (c .g)) .0 (limits c passed-within .generatorRows .used)) (parts .1)
 
 module _ (c : Code) (P : Pauli) {e : Elimination} (known : e ≡ elimination c) where
-  pub member-refused : {refusal : Refusal} → e .answer ≡ Checked.Refused refusal → Membership.Refused refusal ≡ membership c P
+  pub member-refused : {refusal : Refusal} → e .answer ≡ Checked.Refused refusal
+      → Membership.Refused refusal ≡ membership c P
   unfolding membership memberAnswer
   member-refused told = ap (λ fault. memberAnswer fault (memberSign (generators c) P)) (fault-told c known told)
 
   pub member-told : {R Q : Pauli} {kind kind′ : Kind} → e .answer ≡ Checked.Passed → R ≡ rowOf Plus (P .a) (P .b)
-      → Q ≡ reduced (e .reduced .n) (rowsIn (e .reduced)) R → kind ≡ kindOf Q → kind ≡ kind′ → kindMember kind′ ≡ membership c P
+      → Q ≡ reduced (e .reduced .n) (rowsIn (e .reduced)) R → kind ≡ kindOf Q → kind ≡ kind′
+      → kindMember kind′ ≡ membership c P
   unfolding membership reducedOf
   member-told {R = R} told row left found is =
       let passes = fault-told c known told in
       let canonical = canonicalGenerators (c .n) (generators c) in
-      ap kindMember (sym is ∙ found ∙ ap kindOf (left ∙ ap (λ hs. reduced (hs .n) (rowsIn hs) R) (rows-told c known told)
+      ap kindMember
+      (sym is ∙ found ∙ ap kindOf (left ∙ ap (λ hs. reduced (hs .n) (rowsIn hs) R) (rows-told c known told)
       ∙ ap₂ (reduced (c .n)) (rows-of (c .n) canonical) row))
       ∙ kind-member (reduced (c .n) canonical (rowOf Plus (P .a) (P .b)))
-      ∙ ap₂ memberAnswer passes (sym (member-sign-reduced (c .n) (generators c) (passed-independent c passes) P))
+      ∙ ap₂ memberAnswer passes
+      (sym (member-sign-reduced (c .n) (generators c) (passed-independent c passes .stabilizer) P))
 
 -- ---- members, phase aside
 
@@ -109,4 +115,5 @@ contains-decides-membership c told P =
     let i = passed-independent c (fault-told c known told) in
     ap (λ hs. reducesToIdentity (hs .n) (rowsIn hs) P) (rows-told c known told)
     ∙ ap (λ hs. reducesToIdentity (c .n) hs P) (rows-of (c .n) (canonicalGenerators (c .n) rows))
-    ∙ reduction-decides-membership .canonical (c .n) rows (all-of (onQubits (c .n)) rows .1 (qubits-rows (c .n) rows (i .areRows))) P
+    ∙ reduction-decides-membership .canonical (c .n) rows
+    (all-of (onQubits (c .n)) rows .1 (qubits-rows (c .n) rows (i .stabilizer .areRows))) P

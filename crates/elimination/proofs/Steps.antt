@@ -18,16 +18,18 @@ use Rattle.stabilizer.specs.Checks.{minusIdentity, firstFault, dependence}
 use Rattle.stabilizer.proofs.All.{All, all-at, all-places}
 use Rattle.stabilizer.proofs.Faults.{reducedFault, dependence-reduced}
 use Rattle.stabilizer.proofs.Generated.{whole, Commute, Commuting}
-use Rattle.stabilizer.proofs.Independent.{Rows, Independent, independent-none, independent-more}
+use Rattle.stabilizer.proofs.Independent.{Independent, independent-none, independent-more}
+use Rattle.stabilizer.proofs.StabilizerRows.{Rows}
 use Rattle.stabilizer.proofs.Reduction.{canonical-more}
 use Rattle.elimination.specs.declared.Added.{Added}
 use Rattle.elimination.specs.declared.Kind.{Kind}
-use Rattle.elimination.specs.declared.Kind.the-variants.{Independent as IsIndependent, PlusIdentity, MinusIdentity}
+use Rattle.elimination.specs.declared.Kind.the-variants.{Independent as IsIndependent, PlusIdentity}
+use Rattle.elimination.specs.declared.Kind.the-variants.{MinusIdentity}
 use Rattle.elimination.specs.declared.ReducedRows.{ReducedRows}
 use Rattle.elimination.specs.Answers.{rowsIn, reducedOf}
 use Rattle.elimination.specs.Step.{IsReducedOf, kindOf, addition}
 use Rattle.elimination.proofs.Rows.{rows-of, is-reduced-of}
-use Rattle.elimination.proofs.Walk.{Left, taken-more, fault-at, fault-end}
+use Rattle.elimination.proofs.Walk.{Left, taken-more, fault-start, fault-at, fault-end}
 
 -- ---- the fault of a kind
 
@@ -41,7 +43,9 @@ unfolding reducedFault kindOf
 kind-fault at Q = by (sameMasks Q identity) (samePauli minusIdentity Q)
   where
     by : (none? minus? : Bool)
-        → cond none? (some (cond minus? (Refusal.MinusIdentity at Family.Generator) (Refusal.DependentGenerator at Family.Generator))) none
+        → cond none?
+        (some (cond minus? (Refusal.MinusIdentity at Family.Generator)
+        (Refusal.DependentGenerator at Family.Generator))) none
         ≡ kindFault at (cond none? (cond minus? MinusIdentity PlusIdentity) IsIndependent)
     by true true = refl
     by true false = refl
@@ -57,14 +61,16 @@ independent-left : (Q : Pauli) → kindOf Q ≡ IsIndependent → sameMasks Q id
 unfolding kindOf isNew
 independent-left Q = by (sameMasks Q identity) (samePauli minusIdentity Q)
   where
-    by : (none? minus? : Bool) → cond none? (cond minus? MinusIdentity PlusIdentity) IsIndependent ≡ IsIndependent → none? ≡ false
+    by : (none? minus? : Bool) → cond none? (cond minus? MinusIdentity PlusIdentity) IsIndependent ≡ IsIndependent
+        → none? ≡ false
     by true true e = absurd (false≢true (ap isNew e))
     by true false e = absurd (false≢true (ap isNew e))
     by false minus? e = refl
 
 -- ---- the first rows of an array
 
-all-taken : (S : Pauli → Type 0) (rows : List Pauli) (count place : ℕ) → place ≤ count → count ≤ length rows → All S (take count rows) → All S (take place rows)
+all-taken : (S : Pauli → Type 0) (rows : List Pauli) (count place : ℕ) → place ≤ count → count ≤ length rows
+    → All S (take count rows) → All S (take place rows)
 all-taken S rows count place few room all = all-places S identity (take place rows) at
   where
     at : (i : ℕ) → i < length (take place rows) → S (getD (take place rows) i identity)
@@ -73,16 +79,18 @@ all-taken S rows count place few room all = all-places S identity (take place ro
         subst S (getD-take count rows i identity (omega arith) ∙ sym (getD-take place rows i identity short))
         (all-at S identity (take count rows) all i (omega (arith, length-take count rows)))
 
-module _ (n : ℕ) (rows : List Pauli) (count : ℕ) where
+-- `line` is the line of the first row.
+module _ (n line : ℕ) (rows : List Pauli) (count : ℕ) where
   -- The first `place` of them, and what 7 and 8 find behind them.
   pub record Stepped (place : ℕ) (hs : ReducedRows) : Type 0 where
     pub held : hs ≡ reducedOf n (canonicalGenerators n (take place rows))
     pub independent : Independent n (take place rows)
-    pub left : Left dependence rows count place 3 ≡ firstFault dependence [] generatorsAt (take count rows)
+    pub left : Left dependence rows count place line ≡ firstFault dependence [] line (take count rows)
 
   pub stepped-none : (hs : ReducedRows) → hs ≡ reducedOf n [] → Stepped 0 hs
-  unfolding canonicalGenerators generatorsAt
-  stepped-none hs e = record { held = e; independent = independent-none n; left = refl }
+  unfolding canonicalGenerators
+  stepped-none hs e =
+      record { held = e; independent = independent-none n; left = fault-start dependence rows count 0 line refl }
 
   module _ {place : ℕ} {hs : ReducedRows} (s : Stepped place hs) where
     pub stepped-is : IsReducedOf hs
@@ -92,19 +100,22 @@ module _ (n : ℕ) (rows : List Pauli) (count : ℕ) where
     unfolding reducedOf
     stepped-count few = omega (arith, ap (λ r. r .count) (s .held), s .independent .count, length-take place rows)
 
-    pub stepped-end : count ≤ place → none ≡ firstFault dependence [] generatorsAt (take count rows)
-    stepped-end end = sym (fault-end dependence rows count place 3 end) ∙ s .left
+    pub stepped-end : count ≤ place → none ≡ firstFault dependence [] line (take count rows)
+    stepped-end end = sym (fault-end dependence rows count place line end) ∙ s .left
 
     -- One row more, of rows of n qubits that commute.
-    module _ (room : count ≤ length rows) (areRows : Rows n (take count rows)) (commuting : Commuting whole (take count rows))
-        (few : place < count) (P : Pauli) (here : P ≡ getD rows place identity) {step : Added} (stepped : step ≡ addition hs P) where
+    module _ (room : count ≤ length rows) (areRows : Rows n (take count rows))
+        (commuting : Commuting whole (take count rows))
+        (few : place < count) (P : Pauli) (here : P ≡ getD rows place identity) {step : Added}
+        (stepped : step ≡ addition hs P) where
       inside : place < length rows
       inside = omega arith
 
       -- What holds of all the rows holds of this one.
       this : (S : Pauli → Type 0) → All S (take count rows) → S (getD rows place identity)
       this S all =
-          subst S (getD-take count rows place identity few) (all-at S identity (take count rows) all place (omega (arith, length-take count rows)))
+          subst S (getD-take count rows place identity few)
+          (all-at S identity (take count rows) all place (omega (arith, length-take count rows)))
 
       Q : Pauli
       Q = reduced n (canonicalGenerators n (take place rows)) (getD rows place identity)
@@ -113,7 +124,8 @@ module _ (n : ℕ) (rows : List Pauli) (count : ℕ) where
       unfolding addition reducedOf Q
       kind-is =
           ap (λ r. r .kind) stepped
-          ∙ ap (λ r. kindOf (reduced (r .n) (rowsIn r) P)) (s .held) ∙ ap₂ (λ hs P. kindOf (reduced n hs P)) (rows-of n (canonicalGenerators n (take place rows))) here
+          ∙ ap (λ r. kindOf (reduced (r .n) (rowsIn r) P)) (s .held)
+          ∙ ap₂ (λ hs P. kindOf (reduced n hs P)) (rows-of n (canonicalGenerators n (take place rows))) here
 
       reduced-is : step .reduced ≡ reducedOf n (canonicalGenerators n (take (place + 1) rows))
       unfolding addition reducedOf
@@ -133,18 +145,21 @@ module _ (n : ℕ) (rows : List Pauli) (count : ℕ) where
 
       -- What is found from here on.
       found : {kind : Kind} → step .kind ≡ kind
-          → (kindFault (3 + place) kind then Left dependence rows count (place + 1) 3) ≡ firstFault dependence [] generatorsAt (take count rows)
+          → (kindFault (line + place) kind then Left dependence rows count (place + 1) line)
+          ≡ firstFault dependence [] line (take count rows)
       unfolding Q
       found e =
-          ap (λ k. kindFault (3 + place) k then Left dependence rows count (place + 1) 3) (sym e ∙ kind-is)
-          ∙ ap (λ f. f then Left dependence rows count (place + 1) 3)
-          (sym (dependence-reduced n (take place rows) (3 + place) (getD rows place identity) (s .independent) row ∙ kind-fault (3 + place) Q))
-          ∙ sym (fault-at dependence rows count place 3 few room) ∙ s .left
+          ap (λ k. kindFault (line + place) k then Left dependence rows count (place + 1) line) (sym e ∙ kind-is)
+          ∙ ap (λ f. f then Left dependence rows count (place + 1) line)
+          (sym (dependence-reduced n (take place rows) (line + place) (getD rows place identity)
+          (s .independent .stabilizer) row ∙ kind-fault (line + place) Q))
+          ∙ sym (fault-at dependence rows count place line few room) ∙ s .left
 
-      pub stepped-fault : {kind : Kind} {refusal : Refusal} → step .kind ≡ kind → kindFault (3 + place) kind ≡ some refusal
-          → some refusal ≡ firstFault dependence [] generatorsAt (take count rows)
+      pub stepped-fault : {kind : Kind} {refusal : Refusal} → step .kind ≡ kind
+          → kindFault (line + place) kind ≡ some refusal
+          → some refusal ≡ firstFault dependence [] line (take count rows)
       unfolding _then_
-      stepped-fault e f = ap (λ fault. fault then Left dependence rows count (place + 1) 3) (sym f) ∙ found e
+      stepped-fault e f = ap (λ fault. fault then Left dependence rows count (place + 1) line) (sym f) ∙ found e
 
       pub stepped-more : step .kind ≡ IsIndependent → Stepped (place + 1) (step .reduced)
       unfolding _then_ Q reducesToIdentity
@@ -153,6 +168,7 @@ module _ (n : ℕ) (rows : List Pauli) (count : ℕ) where
             held = reduced-is;
             independent =
                 subst (Independent n) (taken-more rows place inside)
-                (independent-more n (take place rows) (getD rows place identity) (s .independent) row commutes-before (independent-left Q (sym kind-is ∙ e)));
+                (independent-more n (take place rows) (getD rows place identity) (s .independent) row commutes-before
+                (independent-left Q (sym kind-is ∙ e)));
             left = found e;
           }

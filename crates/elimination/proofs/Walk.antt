@@ -16,8 +16,10 @@ use Rattle.stabilizer.specs.Checks.{firstFault}
 use Rattle.elimination.proofs.FirstRows.{taken-at, taken-end}
 
 -- One row more.
-pub taken-more : (rows : List Pauli) (place : ℕ) → place < length rows → take place rows ++ getD rows place identity ∷ [] ≡ take (place + 1) rows
-taken-more rows place inside = sym (take-suc rows place identity inside) ∙ ap (λ (i : ℕ). take i rows) (sym (add-one place))
+pub taken-more : (rows : List Pauli) (place : ℕ) → place < length rows
+    → take place rows ++ getD rows place identity ∷ [] ≡ take (place + 1) rows
+taken-more rows place inside = sym (take-suc rows place identity inside)
+    ∙ ap (λ (i : ℕ). take i rows) (sym (add-one place))
 
 module _ (check : List Pauli → ℕ → Pauli → Option Refusal) (rows : List Pauli) (count place at : ℕ) where
   -- What the check finds from a place on, where `at` is the line of the first row.
@@ -31,8 +33,14 @@ module _ (check : List Pauli → ℕ → Pauli → Option Refusal) (rows : List 
   fault-at few room =
       let inside : place < length rows = omega arith in
       ap (firstFault check (take place rows) (at + place)) (taken-at rows count place few inside)
-      ∙ ap₂ (λ before line. check (take place rows) (at + place) (getD rows place identity) then firstFault check before line (drop (place + 1) (take count rows)))
+      ∙ ap₂ (λ before line. check (take place rows) (at + place)
+      (getD rows place identity) then firstFault check before line (drop (place + 1) (take count rows)))
       (taken-more rows place inside) (omega arith)
+
+  pub fault-start : place ≡ 0 → Left ≡ firstFault check [] at (take count rows)
+  fault-start first =
+      ap (λ i. firstFault check (take i rows) (at + i) (drop i (take count rows))) first
+      ∙ ap (λ i. firstFault check [] i (take count rows)) (omega arith)
 
   pub fault-end : count ≤ place → Left ≡ none
   unfolding firstFault

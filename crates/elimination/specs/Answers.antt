@@ -7,7 +7,7 @@ use Rattle.pauli.specs.declared.Pauli.{Pauli}
 use Rattle.pauli.specs.declared.Sign.{Sign}
 use Rattle.sheet.specs.declared.Code.{Code}
 use Rattle.sheet.specs.declared.Refusal.{Refusal}
-use Rattle.sheet.specs.Record.{filled, generators}
+use Rattle.sheet.specs.Record.{generatorRoom, filled, generators}
 use Rattle.stabilizer.specs.Canonical.{canonicalGenerators}
 use Rattle.stabilizer.specs.Checks.{groupFault}
 use Rattle.stabilizer.specs.Group.{memberSign}
@@ -21,19 +21,24 @@ unfoldable pub rowsIn : ReducedRows → List Pauli
 rowsIn hs = take (hs .count) (hs .rows)
 
 unfoldable pub reducedOf : ℕ → List Pauli → ReducedRows
-reducedOf n rows = record { n = n; count = length rows; rows = filled 32 rows }
+reducedOf n rows = record { n = n; count = length rows; rows = filled generatorRoom rows }
 
 -- The refusal that an answer carries, where it is one.
 abbrev pub checkedRefusal : Checked → Option Refusal
 checkedRefusal Checked.Passed = none
 checkedRefusal (Checked.Refused refusal) = some refusal
 
+abbrev pub membershipRefusal : Membership → Option Refusal
+membershipRefusal (Membership.Member sign) = none
+membershipRefusal Membership.NotMember = none
+membershipRefusal (Membership.Refused refusal) = some refusal
+
 -- The canonical generators where there is no fault.
 unfoldable pub eliminated : Option Refusal → ℕ → List Pauli → Elimination
 eliminated none n hs = record { answer = Checked.Passed; reduced = reducedOf n hs }
 eliminated (some refusal) n hs = record { answer = Checked.Refused refusal; reduced = reducedOf 0 [] }
 
--- 15, then 6 to 8, and the canonical generators.
+-- RULES, "Calls and buffers": 15, then 6 to 8, and the canonical generators.
 unfoldable pub elimination : Code → Elimination
 elimination c = eliminated (groupFault c) (c .n) (canonicalGenerators (c .n) (generators c))
 
@@ -43,6 +48,6 @@ memberAnswer (some refusal) sign = Membership.Refused refusal
 memberAnswer none (some sign) = Membership.Member sign
 memberAnswer none none = Membership.NotMember
 
--- 15, then 6 to 8, then the sign of the member of the group that has P's masks.
+-- RULES, "Calls and buffers": 15, then 6 to 8, then the sign of the member of the group that has P's masks.
 unfoldable pub membership : Code → Pauli → Membership
 membership c P = memberAnswer (groupFault c) (memberSign (generators c) P)

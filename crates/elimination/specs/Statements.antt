@@ -1,16 +1,28 @@
 -- What is stated of the calls on a record's group.
+use mathlib.Core.List.{[], _∷_}
+use mathlib.Core.Option.{some}
 use mathlib.Core.Path.{_≡_}
 use Rattle.pauli.specs.declared.Pauli.{Pauli}
 use Rattle.sheet.specs.declared.Code.{Code}
+use Rattle.sheet.specs.declared.Refusal.{Refusal}
 use Rattle.sheet.specs.Record.{generators}
+use Rattle.sheet.specs.Statements.{Among}
 use Rattle.stabilizer.specs.Canonical.{reducesToIdentity}
 use Rattle.stabilizer.specs.Group.{inGroupUpToPhase}
 use Rattle.elimination.specs.declared.Checked.{Checked}
-use Rattle.elimination.specs.Answers.{rowsIn, elimination}
+use Rattle.elimination.specs.Answers.{rowsIn, checkedRefusal, membershipRefusal, elimination, membership}
 
--- Of a record that passes the checks, the canonical generators contain a Pauli exactly where it is in the group, phase aside: where some selection's product has
--- its masks.
+-- Of a record that passes the checks, the canonical generators contain a Pauli exactly where it is in the group, phase
+-- aside: where some selection's product has its masks.
 abbrev pub ContainsDecidesMembership : Type 0
 ContainsDecidesMembership =
     (c : Code) → elimination c .answer ≡ Checked.Passed → (P : Pauli)
-    → reducesToIdentity (elimination c .reduced .n) (rowsIn (elimination c .reduced)) P ≡ inGroupUpToPhase (generators c) P
+    → reducesToIdentity (elimination c .reduced .n) (rowsIn (elimination c .reduced)) P
+    ≡ inGroupUpToPhase (generators c) P
+
+-- RULES, "Refusals": the numbers with which the calls refuse.
+pub record GroupRefusalNumbers : Type 0 where
+  pub checks : (c : Code) (refusal : Refusal) → checkedRefusal (elimination c .answer) ≡ some refusal
+      → Among (6 ∷ 7 ∷ 8 ∷ 15 ∷ []) refusal
+  pub membership : (c : Code) (P : Pauli) (refusal : Refusal) → membershipRefusal (membership c P) ≡ some refusal
+      → Among (6 ∷ 7 ∷ 8 ∷ 15 ∷ []) refusal

@@ -22,7 +22,8 @@ IsReducedOf hs = hs ≡ reducedOf (hs .n) (rowsIn hs)
 
 -- What a row was, from what is left of it.
 unfoldable pub kindOf : Pauli → Kind
-kindOf Q = cond (sameMasks Q identity) (cond (samePauli minusIdentity Q) Kind.MinusIdentity Kind.PlusIdentity) Kind.Independent
+kindOf Q =
+    cond (sameMasks Q identity) (cond (samePauli minusIdentity Q) Kind.MinusIdentity Kind.PlusIdentity) Kind.Independent
 
 -- The rows in front of the first one whose pivot comes behind q's.
 unfoldable pub belowPivot : ℕ → Pauli → List Pauli → List Pauli
@@ -36,4 +37,6 @@ addition hs P =
 
 -- 7 and 8 over the generators of a record.
 unfoldable pub independence : Code → Elimination
-independence c = eliminated (firstFault dependence [] generatorsAt (generators c)) (c .n) (canonicalGenerators (c .n) (generators c))
+independence c =
+    eliminated (firstFault dependence [] (generatorsAt c) (generators c)) (c .n)
+    (canonicalGenerators (c .n) (generators c))

@@ -1,9 +1,11 @@
-// Elimination on the rows of a record: one step adds a row to rows in reduced echelon form and tells what the row was. 7 and 8, membership in the group and the
-// canonical generators follow from it; 6, which comes before them, compares rows two by two.
+// Elimination on the rows of a record: one step adds a row to rows in reduced echelon form and tells what the row was.
+// 7 and 8, membership in the group and the canonical generators follow from it; 6, which comes before them, compares
+// rows two by two.
 use pauli::Pauli;
 use pauli::Sign;
 use sheet::Code;
 use sheet::Family;
+use sheet::GENERATOR_ROOM;
 use sheet::Refusal;
 ghost use mathlib.Core.Bool.{true};
 ghost use mathlib.Core.List.{[], map};
@@ -14,17 +16,19 @@ ghost use lib.ListN.{take, getD};
 ghost use Rattle.pauli.specs.Lists.{anyOf};
 ghost use Rattle.pauli.specs.Masks.{bits};
 ghost use Rattle.pauli.specs.Product.{identity, anticommutes, modulo4, sameMasks};
-ghost use Rattle.sheet.specs.Record.{generators, generatorsAt, withinLimits};
-ghost use Rattle.stabilizer.specs.Canonical.{firstOne, column, pivot, cleared, reduced, reducesToIdentity, insertByPivot};
+ghost use Rattle.sheet.specs.Record.{generatorRoom, generators, generatorsAt, withinLimits};
+ghost use Rattle.stabilizer.specs.Canonical.{firstOne, column, pivot, cleared, reduced, reducesToIdentity};
+ghost use Rattle.stabilizer.specs.Canonical.{insertByPivot};
 ghost use Rattle.stabilizer.specs.Checks.{firstFault, clash};
-ghost use Rattle.elimination.specs.Answers.{rowsIn, reducedOf, checkedRefusal, eliminated, elimination, membership};
+ghost use Rattle.elimination.specs.Answers.{rowsIn, reducedOf, checkedRefusal, eliminated, elimination};
+ghost use Rattle.elimination.specs.Answers.{membership};
 ghost use Rattle.elimination.specs.Step.{IsReducedOf, kindOf, belowPivot, addition, independence};
 
 // Rows of n qubits in reduced echelon form, the first `count` of the array; the others are +I.
 pub struct ReducedRows {
     pub n: u32,
     pub count: usize,
-    pub rows: [Pauli; 32],
+    pub rows: [Pauli; GENERATOR_ROOM],
 }
 
 // What a row is to other rows: independent of them, or I with a sign once multiplied by a selection of them.
@@ -123,7 +127,7 @@ impl ReducedRows {
         ReducedRows {
             n,
             count: 0,
-            rows: [Pauli::identity(); 32],
+            rows: [Pauli::identity(); GENERATOR_ROOM],
         }
     }
 
@@ -135,7 +139,7 @@ impl ReducedRows {
         let count = self.count;
         let mut left = p;
         let mut place: usize = 0;
-        while place < 32 && place < count {
+        while place < GENERATOR_ROOM && place < count {
             left = cleared(n, self.rows[place], left);
             place += 1;
         }
@@ -174,8 +178,9 @@ impl ReducedRows {
     // The rows with their ones in the column of q's first one taken away, and q in its place among them.
     fn insert(self, q: Pauli) -> ReducedRows
         requires { ⌜ IsReducedOf self ⌝ }
-        requires { ⌜ self .count < 32 ⌝ }
-        ensures { λ r. ⌜ r ≡ reducedOf (self .n) (insertByPivot (self .n) q (map (cleared (self .n) q) (rowsIn self))) ⌝ }
+        requires { ⌜ self .count < generatorRoom ⌝ }
+        ensures { λ r.
+            ⌜ r ≡ reducedOf (self .n) (insertByPivot (self .n) q (map (cleared (self .n) q) (rowsIn self))) ⌝ }
     {
         let n = self.n;
         let count = self.count;
@@ -195,7 +200,7 @@ impl ReducedRows {
     // The elimination step: a row is reduced, and joins the rows where something other than a phase is left of it.
     fn add(self, p: Pauli) -> Added
         requires { ⌜ IsReducedOf self ⌝ }
-        requires { ⌜ self .count < 32 ⌝ }
+        requires { ⌜ self .count < generatorRoom ⌝ }
         ensures { λ r. ⌜ r ≡ addition self p ⌝ }
     {
         let left = self.reduce(p);
@@ -245,7 +250,7 @@ fn kind_of(left: Pauli) -> Kind
 
 // Whether the generator at a place anticommutes with an earlier one.
 fn clashes(code: Code, place: usize) -> bool
-    requires { ⌜ place < 32 ⌝ }
+    requires { ⌜ place < generatorRoom ⌝ }
     ensures { λ r. ⌜ r ≡ anyOf (anticommutes (getD (code .g) place identity)) (take place (code .g)) ⌝ }
 {
     let p = code.g[place];
@@ -262,13 +267,17 @@ fn clashes(code: Code, place: usize) -> bool
 // 6, over the generators of a record within limits.
 fn clash(code: Code) -> Checked
     requires { ⌜ withinLimits code ≡ true ⌝ }
-    ensures { λ r. ⌜ checkedRefusal r ≡ firstFault clash [] generatorsAt (generators code) ⌝ }
+    ensures { λ r. ⌜ checkedRefusal r ≡ firstFault clash [] (generatorsAt code) (generators code) ⌝ }
 {
     let count = code.r;
+    let first = code.generators_at();
     let mut place: usize = 0;
     while place < count {
         if clashes(code, place) {
-            return Checked::Refused(Refusal::GeneratorsAnticommute(3 + place, Family::Generator));
+            return Checked::Refused(Refusal::GeneratorsAnticommute(
+                first + place,
+                Family::Generator,
+            ));
         }
         place += 1;
     }
@@ -288,10 +297,11 @@ fn refused(refusal: Refusal) -> Elimination
 // 7 and 8, over the generators of a record within limits that pass 6.
 fn independence(code: Code) -> Elimination
     requires { ⌜ withinLimits code ≡ true ⌝ }
-    requires { ⌜ firstFault clash [] generatorsAt (generators code) ≡ none ⌝ }
+    requires { ⌜ firstFault clash [] (generatorsAt code) (generators code) ≡ none ⌝ }
     ensures { λ r. ⌜ r ≡ independence code ⌝ }
 {
     let count = code.r;
+    let first = code.generators_at();
     let mut reduced = ReducedRows::empty(code.n as u32);
     let mut place: usize = 0;
     while place < count {
@@ -300,10 +310,10 @@ fn independence(code: Code) -> Elimination
         match kind {
             Kind::Independent => {}
             Kind::PlusIdentity => {
-                return refused(Refusal::DependentGenerator(3 + place, Family::Generator));
+                return refused(Refusal::DependentGenerator(first + place, Family::Generator));
             }
             Kind::MinusIdentity => {
-                return refused(Refusal::MinusIdentity(3 + place, Family::Generator));
+                return refused(Refusal::MinusIdentity(first + place, Family::Generator));
             }
         }
         reduced = step.reduced;
@@ -315,7 +325,8 @@ fn independence(code: Code) -> Elimination
     }
 }
 
-// The checks of a record's generators, and the canonical generators: 15 where the record is outside its limits, then 6 to 8.
+// The checks of a record's generators, and the canonical generators: 15 where the record is outside its limits, then 6
+// to 8.
 pub fn eliminate(code: Code) -> Elimination
     ensures { λ r. ⌜ r ≡ elimination code ⌝ }
 {

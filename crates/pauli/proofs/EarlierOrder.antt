@@ -1,9 +1,12 @@
--- The order "earlier" is a strict total order, and the lists of strings are in it and complete.
--- `SmallerLetter` and `Earlier` both compare a key and go on only where it is equal, so their laws are proved of one such step.
--- The strings of a weight are taken by their first letter: between two that begin differently its rank decides, and an equal first letter keeps the order.
+-- The order "earlier" is a strict total order, and the lists of strings are in it and complete. `SmallerLetter` and
+-- `Earlier` both compare a key and go on only where it is equal, so their laws are proved of one such step. The strings
+-- of a weight are taken by their first letter: between two that begin differently its rank decides, and an equal first
+-- letter keeps the order.
 use mathlib.Core.HLevel.{⊥-prop, ×-prop, hedberg}
-use mathlib.Core.List.{List, [], _∷_, map, flatMap, mem-append, List·Nodup, Pairwise, Pairwise·nil, Pairwise·imp, Pairwise·map, pairwise-append, pairwise-singleton}
-use mathlib.Core.List.{List-discrete, List·Memᴰ, List·Memᴰ·head, List·Memᴰ·not-nil, List·Memᴰ·append-cases, List·Memᴰ·eq-of-singleton}
+use mathlib.Core.List.{List, [], _∷_, map, flatMap, mem-append, List·Nodup, Pairwise, Pairwise·nil, Pairwise·imp}
+use mathlib.Core.List.{Pairwise·map, pairwise-append, pairwise-singleton}
+use mathlib.Core.List.{List-discrete, List·Memᴰ, List·Memᴰ·head, List·Memᴰ·not-nil, List·Memᴰ·append-cases}
+use mathlib.Core.List.{List·Memᴰ·eq-of-singleton}
 use mathlib.Core.List.{Memᴰ·append-left, Memᴰ·append-right, Memᴰ·map, Memᴰ·of-map}
 use mathlib.Core.Logic.{_⊎_, inl, inr, ⊎-elim, ⊎-map, by-cases, ∥∥₁-elim, Or·elim, Iff·or, Iff·trans}
 use mathlib.Core.Path.{_≡_, refl, ap, sym, subst, _∙_}
@@ -39,7 +42,8 @@ module _ {K : Type 0} (key : K → ℕ) (key-injective : (x y : K) → key x ≡
   step-total x y same =
       by-cases (decLt (key x) (key y)) (λ h. inr (inl (inl h)))
       λ h. by-cases (decLt (key y) (key x)) (λ k. inr (inr (inl k)))
-      λ k. let e = key-injective x y (omega arith) in ⊎-map (λ p. p) (⊎-map (λ r. inr (e, r)) (λ r. inr (sym e, r))) (same e)
+      λ k. let e = key-injective x y (omega arith) in
+      ⊎-map (λ p. p) (⊎-map (λ r. inr (e, r)) (λ r. inr (sym e, r))) (same e)
 
   -- Membership in a list is truncated, so an order that is read off it has to be a proposition.
   keys-set : IsSet K
@@ -112,7 +116,8 @@ earlier-order = record {
 
 -- In a list that rises no string stands twice.
 rising-once : {listed : List (List Letter)} → Pairwise Earlier listed → List·Nodup listed
-rising-once = Pairwise·imp (λ s t e same. earlier-order .irreflexive t (subst (λ (u : List Letter). Earlier u t) same e))
+rising-once =
+    Pairwise·imp (λ s t e same. earlier-order .irreflexive t (subst (λ (u : List Letter). Earlier u t) same e))
 
 -- ---- strings by their first letter
 
@@ -148,10 +153,12 @@ module _ (tails : Letter → List (List Letter)) where
   first-and-tail k [] rise m = absurd (List·Memᴰ·not-nil m)
   first-and-tail k (l ∷ ls) rise m =
       ⊎-elim (λ h. let r = Memᴰ·of-map (λ s. l ∷ s) (tails l) h in (l, r .0, rise .0, r .1, sym (r .2)))
-      (λ h. let r = first-and-tail (suc (rank l)) ls (rise .1) h in (r .0, r .1, omega arith, r .3, r .4)) (List·Memᴰ·append-cases (beginning l) m)
+      (λ h. let r = first-and-tail (suc (rank l)) ls (rise .1) h in (r .0, r .1, omega arith, r .3, r .4))
+      (List·Memᴰ·append-cases (beginning l) m)
 
   by-first-increasing : (w : ℕ) → ((l : Letter) (s : List Letter) → List·Memᴰ s (tails l) → weightOf (l ∷ s) ≡ w)
-      → ((l : Letter) → Pairwise Earlier (tails l)) → (k : ℕ) (ls : List Letter) → Rising k ls → Pairwise Earlier (flatMap beginning ls)
+      → ((l : Letter) → Pairwise Earlier (tails l)) → (k : ℕ) (ls : List Letter) → Rising k ls
+      → Pairwise Earlier (flatMap beginning ls)
   unfolding flatMap Earlier SmallerLetter
   by-first-increasing w weighs within k [] rise = Pairwise·nil
   by-first-increasing w weighs within k (l ∷ ls) rise =
@@ -187,7 +194,8 @@ strings-weigh (suc n) (suc v) s m =
     let r = first-and-tail (tailsOf n v) 0 letters letters-rise m in
     rw (r .4) (omega (arith, strings-weigh n (rest v (r .0)) (r .1) (r .3), letter-and-rest v (r .0)))
 
-cons-listed : (l : Letter) (n v : ℕ) {s : List Letter} → List·Memᴰ s (strings n v) → List·Memᴰ (l ∷ s) (strings (suc n) (letterWeight l + v))
+cons-listed : (l : Letter) (n v : ℕ) {s : List Letter} → List·Memᴰ s (strings n v)
+    → List·Memᴰ (l ∷ s) (strings (suc n) (letterWeight l + v))
 unfolding strings flatMap letterWeight
 cons-listed I n zero m = List·Memᴰ·head (ap (λ (s : List Letter). I ∷ s) (List·Memᴰ·eq-of-singleton m))
 cons-listed I n (suc v) m = rw zero-add (by-first (tailsOf n v) I m)
@@ -206,12 +214,17 @@ strings-increasing zero zero = pairwise-singleton _ _
 strings-increasing zero (suc v) = Pairwise·nil
 strings-increasing (suc n) zero = pairwise-singleton _ _
 strings-increasing (suc n) (suc v) =
-    by-first-increasing (tailsOf n v) (suc v) (λ l s m. (strings-weigh (suc n) (suc v) (l ∷ s) (by-first (tailsOf n v) l m)) .1)
+    by-first-increasing (tailsOf n v) (suc v)
+    (λ l s m. (strings-weigh (suc n) (suc v) (l ∷ s) (by-first (tailsOf n v) l m)) .1)
     (λ l. strings-increasing n (rest v l)) 0 letters letters-rise
 
 pub strings-listed : StringsAreListed
 strings-listed n v = record {
-  exactly = λ s. (λ m. ∥∥₁-elim m (×-prop (ℕ-set _ _) (ℕ-set _ _)) (strings-weigh n v s), λ h. ∣ rw (h .0, h .1) at (listed s) ∣₁);
+  exactly =
+      λ s. (
+        λ m. ∥∥₁-elim m (×-prop (ℕ-set _ _) (ℕ-set _ _)) (strings-weigh n v s),
+        λ h. ∣ rw (h .0, h .1) at (listed s) ∣₁,
+      );
   once = rising-once (strings-increasing n v);
   increasing = strings-increasing n v;
 }

@@ -29,7 +29,8 @@ searches = (refl, refl, refl)
 -- ---- products and commutation
 
 -- "Y = iXZ"
-y-is-ixz : product (record { p = 1; a = 0; b = 0 }) (product (ofLetters (X ∷ [])) (ofLetters (Z ∷ []))) ≡ ofLetters (Y ∷ [])
+y-is-ixz : product (record { p = 1; a = 0; b = 0 }) (product (ofLetters (X ∷ [])) (ofLetters (Z ∷ [])))
+    ≡ ofLetters (Y ∷ [])
 unfolding definitions
 y-is-ixz = refl
 
@@ -52,14 +53,16 @@ xx-zz = refl
 
 -- X and Z anticommute, whichever comes first; XX and ZZ commute.
 commutation :
-    (anticommutes (ofLetters (X ∷ [])) (ofLetters (Z ∷ [])) ≡ true) × (anticommutes (ofLetters (Z ∷ [])) (ofLetters (X ∷ [])) ≡ true)
+    (anticommutes (ofLetters (X ∷ [])) (ofLetters (Z ∷ [])) ≡ true)
+    × (anticommutes (ofLetters (Z ∷ [])) (ofLetters (X ∷ [])) ≡ true)
     × (commutes (ofLetters (X ∷ X ∷ [])) (ofLetters (Z ∷ Z ∷ [])) ≡ true)
 unfolding definitions
 commutation = (refl, refl, refl)
 
 -- X on the first qubit is seen by the first of these rows alone, and on the second by both.
 syndromes :
-    map (λ s. syndrome (ofLetters (Z ∷ Z ∷ I ∷ []) ∷ ofLetters (I ∷ Z ∷ Z ∷ []) ∷ []) (ofLetters s)) ((X ∷ I ∷ I ∷ []) ∷ (I ∷ X ∷ I ∷ []) ∷ [])
+    map (λ s. syndrome (ofLetters (Z ∷ Z ∷ I ∷ []) ∷ ofLetters (I ∷ Z ∷ Z ∷ []) ∷ []) (ofLetters s))
+    ((X ∷ I ∷ I ∷ []) ∷ (I ∷ X ∷ I ∷ []) ∷ [])
     ≡ (true ∷ false ∷ []) ∷ (true ∷ true ∷ []) ∷ []
 unfolding definitions
 syndromes = refl
@@ -96,7 +99,8 @@ weights = (refl, refl)
 -- Y with phases 1, 3 and 5 is +Y, -Y and +Y; with phase 0 it is no signed row.
 signed-rows :
     map isSignedRow
-    (record { p = 1; a = 1; b = 1 } ∷ record { p = 3; a = 1; b = 1 } ∷ record { p = 5; a = 1; b = 1 } ∷ record { p = 0; a = 1; b = 1 } ∷ [])
+    (record { p = 1; a = 1; b = 1 } ∷ record { p = 3; a = 1; b = 1 } ∷ record { p = 5; a = 1; b = 1 }
+    ∷ record { p = 0; a = 1; b = 1 } ∷ [])
     ≡ true ∷ true ∷ true ∷ false ∷ []
 unfolding definitions
 signed-rows = refl

@@ -1,83 +1,85 @@
--- The first string of an ordered list that passes a test is the earliest that does; where none is found there is none.
+-- The first string of a list in order that passes a test is the first of all that meet the list's condition and pass;
+-- where none is found there is none; and those that pass are a list in order again. One walk along the list: a string
+-- that passes has the others behind it, and one that does not is passed over.
 use mathlib.Core.Bool.{Bool, true, false, true≢false}
-use mathlib.Core.HLevel.{⊥-prop}
-use mathlib.Core.List.{List, [], _∷_, Pairwise, rel-of-pairwise-cons, Pairwise·of-cons}
-use mathlib.Core.List.{List·Memᴰ, List·Memᴰ·head, List·Memᴰ·tail, List·Memᴰ·cases-cons, List·Memᴰ·not-nil}
-use mathlib.Core.Logic.{_⊎_, inl, inr, ⊎-elim, ⊎-map, by-cases, ∥∥₁-elim}
+use mathlib.Core.List.{List, [], _∷_, List·Mem, Pairwise, rel-of-pairwise-cons, Pairwise·of-cons, Pairwise·filter}
+use mathlib.Core.List.{mem-cast, mem-cons-self, mem-cons-of-mem, mem-of-ne-of-mem, not-mem-nil, mem-filter}
+use mathlib.Core.Logic.{inl, inr, by-cases, Iff·trans, Iff·and, Iff·rfl}
 use mathlib.Core.Option.{Option, none, some, Option·some-injective, Option·none-ne-some, Option·some-ne-none}
 use mathlib.Core.Path.{_≡_, refl, ap, sym, _∙_}
 use Rattle.pauli.specs.declared.Letter.{Letter}
-use Rattle.pauli.specs.Lists.{firstOf}
-use Rattle.pauli.specs.Order.{Earlier}
-use Rattle.pauli.specs.Statements.{ListsInOrder}
-use Rattle.pauli.proofs.EarlierOrder.{earlier-prop, strings-discrete}
-
--- The earliest string that meets the condition and passes the test.
-pub record Earliest (Condition : List Letter → Type 0) (test : List Letter → Bool) (s : List Letter) : Type 0 where
-  pub meets : Condition s
-  pub passes : test s ≡ true
-  pub first : (t : List Letter) → Condition t → test t ≡ true → (t ≡ s) ⊎ Earlier s t
+use Rattle.pauli.specs.Lists.{firstOf, passing}
+use Rattle.pauli.specs.Statements.{StringOrder, Listed, FirstBy, ListsAreSearched}
+use Rattle.pauli.proofs.EarlierOrder.{strings-discrete}
 
 -- ---- along a list
 
 module _ (test : List Letter → Bool) where
-  FoundIn : List (List Letter) → List Letter → Type 0
-  FoundIn xs s =
-      List·Memᴰ s xs × (test s ≡ true) × ((t : List Letter) → List·Memᴰ t xs → test t ≡ true → (t ≡ s) ⊎ Earlier s t)
-
-  found-along : (xs : List (List Letter)) → Pairwise Earlier xs → (s : List Letter) → firstOf test xs ≡ some s
-      → FoundIn xs s
-  unfolding firstOf FoundIn
+  found-along : {Before : StringOrder} (xs : List (List Letter)) → Pairwise Before xs → (s : List Letter)
+      → firstOf test xs ≡ some s → FirstBy Before (λ t. List·Mem t xs) test s
+  unfolding firstOf
   found-along [] rise s e = absurd (Option·none-ne-some s e)
-  found-along (x ∷ xs) rise s e = go (test x) refl (found-along xs (Pairwise·of-cons rise) s) e
+  found-along {Before} (x ∷ xs) rise s e = go (test x) refl (found-along xs (Pairwise·of-cons rise) s) e
     where
-      go : (b : Bool) → test x ≡ b → (firstOf test xs ≡ some s → FoundIn xs s)
+      go : (b : Bool) → test x ≡ b → (firstOf test xs ≡ some s → FirstBy Before (λ t. List·Mem t xs) test s)
           → _≡_ {A = Option (List Letter)} (elim b [ true ↦ some x | false ↦ firstOf test xs ]) (some s)
-          → FoundIn (x ∷ xs) s
+          → FirstBy Before (λ t. List·Mem t (x ∷ xs)) test s
       go true p rest e =
-          let same : s ≡ x = sym (Option·some-injective x s e) in (
-            List·Memᴰ·head same,
-            ap test same ∙ p,
-            λ t m passes. ⊎-map (λ q. q ∙ sym same) (λ later. rw same (rel-of-pairwise-cons rise ∣ later ∣₁))
-                (List·Memᴰ·cases-cons m),
-          )
+          let same : s ≡ x = sym (Option·some-injective x s e) in
+          record {
+            meets = mem-cast same mem-cons-self;
+            passes = ap test same ∙ p;
+            first = λ t m passes. by-cases (strings-discrete t x) (λ q. inl (q ∙ sym same))
+                λ other. inr (rw same (rel-of-pairwise-cons rise (mem-of-ne-of-mem other m)));
+          }
       go false p rest e =
-          let r = rest e in (
-            List·Memᴰ·tail (r .0),
-            r .1,
-            λ t m passes. ⊎-elim (λ q. absurd (true≢false (sym passes ∙ ap test q ∙ p))) (λ later. r .2 t later passes)
-                (List·Memᴰ·cases-cons m),
-          )
+          let r = rest e in
+          record {
+            meets = mem-cons-of-mem x (r .meets);
+            passes = r .passes;
+            first = λ t m passes.
+                r .first t (mem-of-ne-of-mem (λ q. true≢false (sym passes ∙ ap test q ∙ p)) m) passes;
+          }
 
-  missing-along : (xs : List (List Letter)) → firstOf test xs ≡ none → (t : List Letter) → List·Memᴰ t xs
+  missing-along : (xs : List (List Letter)) → firstOf test xs ≡ none → (t : List Letter) → List·Mem t xs
       → test t ≡ true → ⊥
   unfolding firstOf
-  missing-along [] e t m passes = List·Memᴰ·not-nil m
+  missing-along [] e t m passes = not-mem-nil m
   missing-along (x ∷ xs) e t m passes = go (test x) refl (λ f m′. missing-along xs f t m′ passes) e
     where
-      go : (b : Bool) → test x ≡ b → (firstOf test xs ≡ none → List·Memᴰ t xs → ⊥)
+      go : (b : Bool) → test x ≡ b → (firstOf test xs ≡ none → List·Mem t xs → ⊥)
           → _≡_ {A = Option (List Letter)} (elim b [ true ↦ some x | false ↦ firstOf test xs ]) none → ⊥
       go true p rest f = Option·some-ne-none x f
-      go false p rest f =
-          ⊎-elim (λ q. true≢false (sym passes ∙ ap test q ∙ p)) (rest f) (List·Memᴰ·cases-cons m)
+      go false p rest f = rest f (mem-of-ne-of-mem (λ q. true≢false (sym passes ∙ ap test q ∙ p)) m)
 
 -- ---- in a list in order
 
 module _
-    {Condition : List Letter → Type 0} (test : List Letter → Bool) (listed : List (List Letter))
-    (inOrder : ListsInOrder listed Condition) where
-  pub first-is-earliest : (s : List Letter) → firstOf test listed ≡ some s → Earliest Condition test s
-  unfolding FoundIn
+    {Before : StringOrder} {Condition : List Letter → Type 0} (test : List Letter → Bool) (list : List (List Letter))
+    (listed : Listed Before Condition list) where
+  pub first-is-earliest : (s : List Letter) → firstOf test list ≡ some s → FirstBy Before Condition test s
   first-is-earliest s e =
-      let f = found-along test listed (inOrder .increasing) s e in
+      let f = found-along test list (listed .increasing) s e in
       record {
-        meets = inOrder .exactly s .0 ∣ f .0 ∣₁;
-        passes = f .1;
-        first = λ t meets passes. by-cases (strings-discrete t s) inl λ other.
-            inr (∥∥₁-elim (inOrder .exactly t .1 meets) (earlier-prop s t)
-            λ m. ⊎-elim (λ q. absurd (other q)) (λ r. r) (f .2 t m passes));
+        meets = listed .exactly s .0 (f .meets);
+        passes = f .passes;
+        first = λ t meets. f .first t (listed .exactly t .1 meets);
       }
 
-  pub first-is-missing : firstOf test listed ≡ none → (t : List Letter) → Condition t → test t ≡ true → ⊥
-  first-is-missing e t meets passes =
-      ∥∥₁-elim (inOrder .exactly t .1 meets) ⊥-prop λ m. missing-along test listed e t m passes
+  pub first-is-missing : firstOf test list ≡ none → (t : List Letter) → Condition t → test t ≡ true → ⊥
+  first-is-missing e t meets = missing-along test list e t (listed .exactly t .1 meets)
+
+  pub passing-is-listed : Listed Before (λ s. Condition s × (test s ≡ true)) (passing test list)
+  unfolding passing
+  passing-is-listed = record {
+    exactly = λ s. Iff·trans (mem-filter _) (Iff·and (listed .exactly s) Iff·rfl);
+    once = Pairwise·filter _ (listed .once);
+    increasing = Pairwise·filter _ (listed .increasing);
+  }
+
+pub lists-are-searched : ListsAreSearched
+lists-are-searched Before Condition list listed = record {
+  found = λ test. first-is-earliest test list listed;
+  missing = λ test. first-is-missing test list listed;
+  filtered = λ test. passing-is-listed test list listed;
+}

@@ -1,6 +1,6 @@
--- Letters and masks say the same of a Pauli. A string of letters gives each mask a bit at a time, lowest
--- bit first, and is read back from the masks in the same order: so each law on strings is an induction in which a mask is its lowest bit and its half.
--- A law on a Pauli's masks is then that of the string read from them.
+-- Letters and masks say the same of a Pauli. A string of letters gives each mask a bit at a time, lowest bit first, and
+-- is read back from the masks in the same order: so each law on strings is an induction in which a mask is its lowest
+-- bit and its half. A law on a Pauli's masks is then that of the string read from them.
 use mathlib.Core.Path.{_≡_, refl, ap, sym, _∙_}
 use mathlib.Core.List.{List, [], _∷_}
 use Prim.Native.Nat.{ℕ, zero, suc, _+_, _*_, _/_, _%_, _^_, _<_}
@@ -13,7 +13,8 @@ use lib.Pow.{shr-shr}
 use Rattle.pauli.specs.declared.Pauli.{Pauli}
 use Rattle.pauli.specs.declared.Letter.{Letter}
 use Rattle.pauli.specs.declared.Letter.the-variants.{I, X, Y, Z}
-use Rattle.pauli.specs.Letters.{letterAt, xBit, zBit, lettersAt, lettersOf, letterOn, maskOf, xMask, zMask, countY, rowOf, signedRow, ofLetters}
+use Rattle.pauli.specs.Letters.{letterAt, xBit, zBit, lettersAt, lettersOf, letterOn, maskOf, xMask, zMask}
+use Rattle.pauli.specs.Letters.{countY, rowOf, signedRow, ofLetters}
 use Rattle.pauli.specs.Masks.{countOnes, dot}
 use Rattle.pauli.specs.Order.{letterWeight, weightOf}
 use Rattle.pauli.specs.Product.{weight}
@@ -96,7 +97,11 @@ masks-of-letters : (n a b : ℕ) → a < 2 ^ n → b < 2 ^ n → (xMask (letters
 unfolding lettersAt xMask zMask maskOf
 masks-of-letters zero a b ha hb = omega arith
 masks-of-letters (suc n) a b ha hb =
-    omega (arith, bits-return (a % 2) (b % 2) (omega arith) (omega arith), masks-of-letters n (a / 2) (b / 2) (half-lt n a ha) (half-lt n b hb))
+    omega (
+      arith,
+      bits-return (a % 2) (b % 2) (omega arith) (omega arith),
+      masks-of-letters n (a / 2) (b / 2) (half-lt n a ha) (half-lt n b hb),
+    )
 
 pub masks-return : MasksReturn
 unfolding lettersOf
@@ -125,15 +130,19 @@ letters-at n j P = lettersAt-at n j (P .a) (P .b)
 
 -- ---- counts of letters
 
--- Where a count adds for each letter what an operation on masks, bit by bit, makes of the letter's two bits, it is the number of ones in the result.
+-- Where a count adds for each letter what an operation on masks, bit by bit, makes of the letter's two bits, it is the
+-- number of ones in the result.
 module _
-    (op : ℕ → ℕ → ℕ) (op-half : (a b : ℕ) → op a b / 2 ≡ op (a / 2) (b / 2)) (op-low : (a b : ℕ) → op a b % 2 ≡ op (a % 2) (b % 2))
-    (count : List Letter → ℕ) (start : countOnes (op 0 0) ≡ count []) (adds : (l : Letter) (s : List Letter) → count (l ∷ s) ≡ op (xBit l) (zBit l) + count s) where
+    (op : ℕ → ℕ → ℕ) (op-half : (a b : ℕ) → op a b / 2 ≡ op (a / 2) (b / 2))
+    (op-low : (a b : ℕ) → op a b % 2 ≡ op (a % 2) (b % 2))
+    (count : List Letter → ℕ) (start : countOnes (op 0 0) ≡ count [])
+    (adds : (l : Letter) (s : List Letter) → count (l ∷ s) ≡ op (xBit l) (zBit l) + count s) where
   ones-count-letters : (s : List Letter) → countOnes (op (xMask s) (zMask s)) ≡ count s
   unfolding xMask zMask maskOf
   ones-count-letters [] = start
   ones-count-letters (l ∷ s) =
-      joined-step op op-half op-low (xMask (l ∷ s)) (zMask (l ∷ s)) ∙ simp (low-bit, half, xBit-lt, zBit-lt, ones-count-letters s, adds)
+      joined-step op op-half op-low (xMask (l ∷ s)) (zMask (l ∷ s))
+      ∙ simp (low-bit, half, xBit-lt, zBit-lt, ones-count-letters s, adds)
 
 y-adds : (l : Letter) (s : List Letter) → countY (l ∷ s) ≡ bitAnd (xBit l) (zBit l) + countY s
 unfolding countY

@@ -1,5 +1,6 @@
--- Laws of masks of any width. Each is proved by halving: what holds of the lowest bits, which are 0 or 1, and of the halves holds of the masks. The
--- library has the rest: xor-comm, xor-zero-l, xor-zero-r, xor-self, and that n-bit masks are closed (xor-lt, and-lt, or-lt), in lib.Bits.
+-- Laws of masks of any width. Each is proved by halving: what holds of the lowest bits, which are 0 or 1, and of the
+-- halves holds of the masks. The library has the rest: xor-comm, xor-zero-l, xor-zero-r, xor-self, and that n-bit masks
+-- are closed (xor-lt, and-lt, or-lt), in lib.Bits.
 use mathlib.Core.List.{head-eq-of-cons-eq, tail-eq-of-cons-eq}
 use mathlib.Core.Path.{_≡_, refl, ap, ap₂, sym, _∙_}
 use Prim.Native.Nat.{ℕ, zero, suc, _+_, _*_, _/_, _%_, _^_, _<_, _≤_}
@@ -62,10 +63,12 @@ xor-assoc =
 
 pub xor-swap : (a b c d : ℕ) → bitXor (bitXor a b) (bitXor c d) ≡ bitXor (bitXor a c) (bitXor b d)
 xor-swap a b c d =
-    xor-assoc a b (bitXor c d) ∙ ap (bitXor a) (sym (xor-assoc b c d) ∙ ap (λ (x : ℕ). bitXor x d) (xor-comm b c) ∙ xor-assoc c b d)
+    xor-assoc a b (bitXor c d)
+    ∙ ap (bitXor a) (sym (xor-assoc b c d) ∙ ap (λ (x : ℕ). bitXor x d) (xor-comm b c) ∙ xor-assoc c b d)
     ∙ sym (xor-assoc a c (bitXor b d))
 
-and-xor-low : (a b c : ℕ) → bitAnd (a % 2) (bitXor (b % 2) (c % 2)) ≡ bitXor (bitAnd (a % 2) (b % 2)) (bitAnd (a % 2) (c % 2))
+and-xor-low : (a b c : ℕ)
+    → bitAnd (a % 2) (bitXor (b % 2) (c % 2)) ≡ bitXor (bitAnd (a % 2) (b % 2)) (bitAnd (a % 2) (c % 2))
 and-xor-low a b c =
     digit (λ x. bitAnd x (bitXor (b % 2) (c % 2)) ≡ bitXor (bitAnd x (b % 2)) (bitAnd x (c % 2))) refl
     (digit (λ y. bitAnd 1 (bitXor y (c % 2)) ≡ bitXor (bitAnd 1 y) (bitAnd 1 (c % 2)))
@@ -109,7 +112,8 @@ countOnes-step m = countOnes-ones m ∙ ones-step m ∙ ap (λ (x : ℕ). m % 2 
 
 -- So the ones of two masks joined bit by bit are those of their lowest bits and of their halves.
 module _
-    (f : ℕ → ℕ → ℕ) (half : (a b : ℕ) → f a b / 2 ≡ f (a / 2) (b / 2)) (low : (a b : ℕ) → f a b % 2 ≡ f (a % 2) (b % 2)) where
+    (f : ℕ → ℕ → ℕ) (half : (a b : ℕ) → f a b / 2 ≡ f (a / 2) (b / 2))
+    (low : (a b : ℕ) → f a b % 2 ≡ f (a % 2) (b % 2)) where
   pub joined-step : (a b : ℕ) → countOnes (f a b) ≡ f (a % 2) (b % 2) + countOnes (f (a / 2) (b / 2))
   joined-step a b = countOnes-step (f a b) ∙ ap₂ (λ (x y : ℕ). x + countOnes y) (low a b) (half a b)
 
@@ -145,8 +149,15 @@ parity-xor a b = same-remainder 2 _ _ (countOnes (bitAnd a b)) 0 (omega (arith, 
 pub countOnes-or : (a b : ℕ) → countOnes (bitOr a b) + countOnes (bitAnd a b) ≡ countOnes a + countOnes b
 countOnes-or =
     bin-ind (λ (a : ℕ). (b : ℕ) → countOnes (bitOr a b) + countOnes (bitAnd a b) ≡ countOnes a + countOnes b) base
-    (λ a ih b. omega
-    (arith, joined-step bitOr or-half or-low a b, joined-step bitAnd and-half and-low a b, countOnes-step a, countOnes-step b, ih (b / 2), low a b))
+    (λ a ih b. omega (
+      arith,
+      joined-step bitOr or-half or-low a b,
+      joined-step bitAnd and-half and-low a b,
+      countOnes-step a,
+      countOnes-step b,
+      ih (b / 2),
+      low a b,
+    ))
   where
     base : (b : ℕ) → countOnes b + countOnes 0 ≡ countOnes 0 + countOnes b
     base b = omega arith
@@ -191,4 +202,5 @@ pub bits-determine : (n a b : ℕ) → a < 2 ^ n → b < 2 ^ n → bits n a ≡ 
 unfolding bits
 bits-determine zero a b ha hb same = omega arith
 bits-determine (suc n) a b ha hb same =
-    by-halves a b (bits-determine n (a / 2) (b / 2) (omega arith) (omega arith) (tail-eq-of-cons-eq same)) (head-eq-of-cons-eq same)
+    by-halves a b (bits-determine n (a / 2) (b / 2) (omega arith) (omega arith) (tail-eq-of-cons-eq same))
+    (head-eq-of-cons-eq same)

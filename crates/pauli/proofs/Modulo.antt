@@ -1,4 +1,5 @@
--- Remainders. Two numbers that differ by multiples of m have one remainder by m; `omega` proves that they do, given the multiples.
+-- Remainders. Two numbers that differ by multiples of m have one remainder by m; `omega` proves that they do, given the
+-- multiples.
 use mathlib.Core.Path.{_≡_, ap, ap₂, sym, _∙_}
 use Prim.Native.Nat.{ℕ, _+_, _*_, _%_}
 use native.Mathlib.Nat.{add-mod, add-mul-mod-self-left}

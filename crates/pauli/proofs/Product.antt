@@ -1,4 +1,5 @@
--- Paulis with phase are a group, and what commutes in it. Phases are compared as remainders by 4, where twice a count of ones depends on its parity alone.
+-- Paulis with phase are a group, and what commutes in it. Phases are compared as remainders by 4, where twice a count
+-- of ones depends on its parity alone.
 use mathlib.Core.Bool.{Bool, true, false, not, xor, false≢true}
 use mathlib.Core.Logic.{_↔_}
 use mathlib.Core.Path.{_≡_, refl, ap, ap₂, sym, _∙_}
@@ -11,8 +12,10 @@ use lib.Dec.{eqb}
 use borrow.Author.Tests.{eqb-true}
 use Rattle.pauli.specs.declared.Pauli.{Pauli}
 use Rattle.pauli.specs.Masks.{dot}
-use Rattle.pauli.specs.Product.{identity, product, negated, inverse, symplectic, commutes, anticommutes, weight, modulo4}
-use Rattle.pauli.proofs.Masks.{digit, xor-assoc, dot-comm, dot-ones, dot-xor, dot-xor-l, countOnes-zero, countOnes-xor-le, twice-or, xor-swap}
+use Rattle.pauli.specs.Product.{identity, product, negated, inverse, symplectic, commutes, anticommutes, weight}
+use Rattle.pauli.specs.Product.{modulo4}
+use Rattle.pauli.proofs.Masks.{digit, xor-assoc, dot-comm, dot-ones, dot-xor, dot-xor-l, countOnes-zero}
+use Rattle.pauli.proofs.Masks.{countOnes-xor-le, twice-or, xor-swap}
 use Rattle.pauli.proofs.Modulo.{same-remainder, sum-remainder}
 
 abbrev pub pauli : ℕ → ℕ → ℕ → Pauli
@@ -23,7 +26,9 @@ pub same-parts : (P Q : Pauli) → P .p ≡ Q .p → P .a ≡ Q .a → P .b ≡ 
 same-parts P Q p a b = ap (λ (x : ℕ). pauli x (P .a) (P .b)) p ∙ ap₂ (pauli (Q .p)) a b
 
 -- The product as a machine computes it, with the phases read modulo 4 as they come in.
-pub product-computed : (P Q : Pauli) → pauli ((P .p % 4 + Q .p % 4 + 2 * ones (bitAnd (P .b) (Q .a))) % 4) (bitXor (P .a) (Q .a)) (bitXor (P .b) (Q .b)) ≡ product P Q
+pub product-computed : (P Q : Pauli)
+    → pauli ((P .p % 4 + Q .p % 4 + 2 * ones (bitAnd (P .b) (Q .a))) % 4) (bitXor (P .a) (Q .a)) (bitXor (P .b) (Q .b))
+    ≡ product P Q
 unfolding product
 product-computed P Q =
     ap (λ (x : ℕ). pauli x (bitXor (P .a) (Q .a)) (bitXor (P .b) (Q .b)))
@@ -35,7 +40,8 @@ pub product-assoc : (P Q R : Pauli) → product (product P Q) R ≡ product P (p
 unfolding product
 product-assoc P Q R =
     same-parts (product (product P Q) R) (product P (product Q R))
-    (same-remainder 4 _ _ (s / 4 + w / 2 + y / 2) (t / 4 + x / 2 + z / 2) (omega (arith, dot-xor-l (P .b) (Q .b) (R .a), dot-xor (P .b) (Q .a) (R .a))))
+    (same-remainder 4 _ _ (s / 4 + w / 2 + y / 2) (t / 4 + x / 2 + z / 2)
+    (omega (arith, dot-xor-l (P .b) (Q .b) (R .a), dot-xor (P .b) (Q .a) (R .a))))
     (xor-assoc (P .a) (Q .a) (R .a)) (xor-assoc (P .b) (Q .b) (R .b))
   where
     s : ℕ
@@ -65,12 +71,14 @@ dot-zero-r m = dot-comm m 0 ∙ dot-zero-l m
 
 pub product-identity-l : (P : Pauli) → product identity P ≡ modulo4 P
 unfolding product modulo4
-product-identity-l P = same-parts (product identity P) (modulo4 P) (ap (λ (x : ℕ). x % 4) (omega (arith, dot-zero-l (P .a)))) refl refl
+product-identity-l P =
+    same-parts (product identity P) (modulo4 P) (ap (λ (x : ℕ). x % 4) (omega (arith, dot-zero-l (P .a)))) refl refl
 
 pub product-identity-r : (P : Pauli) → product P identity ≡ modulo4 P
 unfolding product modulo4
 product-identity-r P =
-    same-parts (product P identity) (modulo4 P) (ap (λ (x : ℕ). x % 4) (omega (arith, dot-zero-r (P .b)))) (xor-zero-r (P .a)) (xor-zero-r (P .b))
+    same-parts (product P identity) (modulo4 P) (ap (λ (x : ℕ). x % 4) (omega (arith, dot-zero-r (P .b))))
+    (xor-zero-r (P .a)) (xor-zero-r (P .b))
 
 inverse-phase : (p d : ℕ) → (p + (3 * p + 2 * d) % 4 + 2 * d) % 4 ≡ 0
 inverse-phase p d = same-remainder 4 _ 0 ((3 * p + 2 * d) / 4) (p + d) (omega arith)
@@ -78,7 +86,8 @@ inverse-phase p d = same-remainder 4 _ 0 ((3 * p + 2 * d) / 4) (p + d) (omega ar
 pub product-inverse-r : (P : Pauli) → product P (inverse P) ≡ identity
 unfolding product inverse
 product-inverse-r P =
-    same-parts (product P (inverse P)) identity (inverse-phase (P .p) (dot (P .b) (P .a))) (xor-self (P .a)) (xor-self (P .b))
+    same-parts (product P (inverse P)) identity (inverse-phase (P .p) (dot (P .b) (P .a))) (xor-self (P .a))
+    (xor-self (P .b))
 
 pub product-inverse-l : (P : Pauli) → product (inverse P) P ≡ identity
 unfolding product inverse
@@ -95,7 +104,8 @@ symplectic-comm P Q = ap (λ (x : ℕ). x % 2) (omega arith)
 pub symplectic-product : (R P Q : Pauli) → symplectic R (product P Q) ≡ (symplectic R P + symplectic R Q) % 2
 unfolding symplectic product
 symplectic-product R P Q =
-    sum-remainder 2 _ _ _ _ (dot-xor (R .a) (P .b) (Q .b)) (dot-xor-l (P .a) (Q .a) (R .b)) ∙ ap (λ (x : ℕ). x % 2) (omega arith)
+    sum-remainder 2 _ _ _ _ (dot-xor (R .a) (P .b) (Q .b)) (dot-xor-l (P .a) (Q .a) (R .b))
+    ∙ ap (λ (x : ℕ). x % 2) (omega arith)
     ∙ add-mod (dot (R .a) (P .b) + dot (P .a) (R .b)) (dot (R .a) (Q .b) + dot (Q .a) (R .b)) 2
 
 -- The order of a product changes its phase by 2 where the two anticommute, and nothing else.
@@ -106,7 +116,8 @@ swapped-phase P Q =
     ((Q .p + P .p + 2 * dot (Q .b) (P .a)) / 4 + (dot (P .a) (Q .b) + dot (Q .a) (P .b)) / 2)
     (omega (arith, dot-comm (P .a) (Q .b), dot-comm (Q .a) (P .b)))
 
-swapped : (P Q S : Pauli) → (product P Q) .p ≡ S .p → (product Q P) .a ≡ S .a → (product Q P) .b ≡ S .b → product P Q ≡ S
+swapped : (P Q S : Pauli) → (product P Q) .p ≡ S .p → (product Q P) .a ≡ S .a → (product Q P) .b ≡ S .b
+    → product P Q ≡ S
 unfolding product
 swapped P Q S p a b = same-parts (product P Q) S p (xor-comm (P .a) (Q .a) ∙ a) (xor-comm (P .b) (Q .b) ∙ b)
 
@@ -116,7 +127,9 @@ commutes-zero P Q h = eqb-true (symplectic P Q) 0 h
 
 pub anticommutes-one : (P Q : Pauli) → anticommutes P Q ≡ true → symplectic P Q ≡ 1
 unfolding anticommutes commutes symplectic
-anticommutes-one P Q = digit (λ x. not (eqb x 0) ≡ true → x ≡ 1) (λ h. absurd (false≢true h)) (λ h. refl) (dot (P .a) (Q .b) + dot (Q .a) (P .b))
+anticommutes-one P Q =
+    digit (λ x. not (eqb x 0) ≡ true → x ≡ 1) (λ h. absurd (false≢true h)) (λ h. refl)
+    (dot (P .a) (Q .b) + dot (Q .a) (P .b))
 
 pub product-phase-lt : (P Q : Pauli) → (product P Q) .p < 4
 unfolding product
@@ -126,12 +139,15 @@ product-phase-lt P Q = mod-lt (P .p + Q .p + 2 * dot (P .b) (Q .a)) (omega arith
 pub commuting-product : (P Q : Pauli) → commutes P Q ≡ true → product P Q ≡ product Q P
 commuting-product P Q h =
     swapped P Q (product Q P)
-    (swapped-phase P Q ∙ rw (commutes-zero P Q h) (ap (λ (x : ℕ). x % 4) (omega arith) ∙ mod-eq-of-lt (product-phase-lt Q P))) refl refl
+    (swapped-phase P Q
+    ∙ rw (commutes-zero P Q h)
+    (ap (λ (x : ℕ). x % 4) (omega arith) ∙ mod-eq-of-lt (product-phase-lt Q P))) refl refl
 
 -- Two that anticommute have products that differ by the sign.
 pub anticommuting-product : (P Q : Pauli) → anticommutes P Q ≡ true → product P Q ≡ negated (product Q P)
 unfolding negated
-anticommuting-product P Q h = swapped P Q (negated (product Q P)) (swapped-phase P Q ∙ rw (anticommutes-one P Q h)) refl refl
+anticommuting-product P Q h =
+    swapped P Q (negated (product Q P)) (swapped-phase P Q ∙ rw (anticommutes-one P Q h)) refl refl
 
 not-negated : (P Q : Pauli) → product P Q ≡ negated (product P Q) → ⊥
 unfolding negated
@@ -140,7 +156,8 @@ not-negated P Q e = differ ((product P Q) .p) (product-phase-lt P Q) (ap (λ (R 
     differ : (x : ℕ) → x < 4 → x ≡ (x + 2) % 4 → ⊥
     differ x h e = omega arith
 
--- So the count decides: it is even exactly where the two products are one, and odd exactly where they differ by the sign.
+-- So the count decides: it is even exactly where the two products are one, and odd exactly where they differ by the
+-- sign.
 pub commutes-decides : (P Q : Pauli) → (commutes P Q ≡ true) ↔ (product P Q ≡ product Q P)
 unfolding anticommutes
 commutes-decides P Q = (commuting-product P Q, go (commutes P Q) refl)
@@ -172,7 +189,8 @@ anticommutes-product R P Q =
 
 -- ---- weight
 
--- Twice the weight is the ones of a, of b and of their sum, and none of the three grows under xor beyond the sum of its own.
+-- Twice the weight is the ones of a, of b and of their sum, and none of the three grows under xor beyond the sum of its
+-- own.
 pub weight-product-le : (P Q : Pauli) → weight (product P Q) ≤ weight P + weight Q
 unfolding weight product
 weight-product-le P Q =

@@ -1,5 +1,6 @@
--- Signed rows: a row is known by its sign and letters, and two rows that commute have a row for their product. A Pauli is a signed row exactly where its
--- phase and the count of its Y's have one parity, and that parity is additive over the product but for the symplectic product of the two.
+-- Signed rows: a row is known by its sign and letters, and two rows that commute have a row for their product. A Pauli
+-- is a signed row exactly where its phase and the count of its Y's have one parity, and that parity is additive over
+-- the product but for the symplectic product of the two.
 use mathlib.Core.Path.{_≡_, refl, _∙_}
 use mathlib.Core.Bool.{Bool, true, false, cond, _||_, or-true}
 use mathlib.Core.List.{List}
@@ -11,7 +12,8 @@ use Rattle.pauli.specs.declared.Pauli.{Pauli}
 use Rattle.pauli.specs.declared.Letter.{Letter}
 use Rattle.pauli.specs.declared.Sign.{Sign}
 use Rattle.pauli.specs.declared.Sign.the-variants.{Plus, Minus}
-use Rattle.pauli.specs.Letters.{lettersOf, xMask, zMask, countY, signPhase, rowPhase, rowOf, signedRow, hasSign, isSignedRow, signOf}
+use Rattle.pauli.specs.Letters.{lettersOf, xMask, zMask, countY, signPhase, rowPhase, rowOf, signedRow, hasSign}
+use Rattle.pauli.specs.Letters.{isSignedRow, signOf}
 use Rattle.pauli.specs.Masks.{dot}
 use Rattle.pauli.specs.Product.{product, commutes, symplectic, modulo4, hasPhase}
 use Rattle.pauli.proofs.Letters.{dot-counts-y, masks-return}
@@ -35,7 +37,8 @@ row-has-sign sign s = let q = rowPhase sign (xMask s) (zMask s) % 4 in eq-eqb q 
 
 minus-is-not-plus : (s : List Letter) → hasSign Plus (signedRow Minus s) ≡ false
 unfolding hasSign hasPhase signedRow rowOf rowPhase
-minus-is-not-plus s = ne-eqb (rowPhase Minus (xMask s) (zMask s) % 4) (rowPhase Plus (xMask s) (zMask s) % 4) (omega arith)
+minus-is-not-plus s =
+    ne-eqb (rowPhase Minus (xMask s) (zMask s) % 4) (rowPhase Plus (xMask s) (zMask s) % 4) (omega arith)
 
 pub sign-returns : (sign : Sign) (s : List Letter) → signOf (signedRow sign s) ≡ sign
 unfolding signOf
@@ -52,13 +55,16 @@ has-its-sign : (P : Pauli) → isSignedRow P ≡ true → hasSign (signOf P) P �
 unfolding isSignedRow signOf
 has-its-sign P = one-of (hasSign Plus P) refl
   where
-    one-of : (plus : Bool) → hasSign Plus P ≡ plus → (plus || hasSign Minus P) ≡ true → hasSign (cond plus Plus Minus) P ≡ true
+    one-of : (plus : Bool) → hasSign Plus P ≡ plus → (plus || hasSign Minus P) ≡ true
+        → hasSign (cond plus Plus Minus) P ≡ true
     one-of true e h = e
     one-of false e h = h
 
-pub row-returns : (n : ℕ) (P : Pauli) → P .a < 2 ^ n → P .b < 2 ^ n → isSignedRow P ≡ true → signedRow (signOf P) (lettersOf n P) ≡ modulo4 P
+pub row-returns : (n : ℕ) (P : Pauli) → P .a < 2 ^ n → P .b < 2 ^ n → isSignedRow P ≡ true
+    → signedRow (signOf P) (lettersOf n P) ≡ modulo4 P
 unfolding signedRow rowOf modulo4
-row-returns n P ha hb h = let m = masks-return n P ha hb in cc (m .0, m .1, phase-of-sign (signOf P) P (has-its-sign P h))
+row-returns n P ha hb h = let m = masks-return n P ha hb in
+    cc (m .0, m .1, phase-of-sign (signOf P) P (has-its-sign P h))
 
 -- ---- the product of two rows
 
@@ -81,7 +87,8 @@ row-of-even P h = go (hasSign Plus P) refl
     go : (plus : Bool) → hasSign Plus P ≡ plus → (hasSign Plus P || hasSign Minus P) ≡ true
     go true e = rw e
     go false e =
-        rw e (eq-eqb (P .p % 4) (rowPhase Minus (P .a) (P .b) % 4) (omega (arith, eqb-false (P .p % 4) (rowPhase Plus (P .a) (P .b) % 4) e)))
+        rw e (eq-eqb (P .p % 4) (rowPhase Minus (P .a) (P .b) % 4)
+        (omega (arith, eqb-false (P .p % 4) (rowPhase Plus (P .a) (P .b) % 4) e)))
 
 dot-four : (a b c d : ℕ) → dot (bitXor a b) (bitXor c d) % 2 ≡ ((dot a c + dot a d) + (dot b c + dot b d)) % 2
 dot-four a b c d = dot-xor-l a b (bitXor c d) ∙ sum-remainder 2 _ _ _ _ (dot-xor a c d) (dot-xor b c d)
@@ -90,7 +97,8 @@ row-parity-product : (P Q : Pauli) → rowParity (product P Q) ≡ (rowParity P 
 unfolding rowParity product symplectic
 row-parity-product P Q =
     same-remainder 2 _ _ (four / 2 + 2 * (phase / 4))
-    ((P .p + dot (P .a) (P .b)) / 2 + (Q .p + dot (Q .a) (Q .b)) / 2 + (dot (P .a) (Q .b) + dot (Q .a) (P .b)) / 2 + dot (P .b) (Q .a)
+    ((P .p + dot (P .a) (P .b)) / 2 + (Q .p + dot (Q .a) (Q .b)) / 2 + (dot (P .a) (Q .b) + dot (Q .a) (P .b)) / 2
+    + dot (P .b) (Q .a)
     + dot (bitXor (P .a) (Q .a)) (bitXor (P .b) (Q .b)) / 2)
     (omega (arith, dot-four (P .a) (Q .a) (P .b) (Q .b)))
   where
@@ -100,6 +108,7 @@ row-parity-product P Q =
     phase : ℕ
     phase = P .p + Q .p + 2 * dot (P .b) (Q .a)
 
-pub rows-product : (P Q : Pauli) → isSignedRow P ≡ true → isSignedRow Q ≡ true → commutes P Q ≡ true → isSignedRow (product P Q) ≡ true
+pub rows-product : (P Q : Pauli) → isSignedRow P ≡ true → isSignedRow Q ≡ true → commutes P Q ≡ true
+    → isSignedRow (product P Q) ≡ true
 rows-product P Q hP hQ h =
     row-of-even (product P Q) (row-parity-product P Q ∙ rw (even-of-row P hP, even-of-row Q hQ, commutes-zero P Q h))

@@ -11,7 +11,8 @@ use Rattle.pauli.specs.Product.{product, commutes, anticommutes}
 use Rattle.pauli.specs.Syndrome.{syndrome, addBits}
 use Rattle.pauli.proofs.Product.{anticommutes-product, symplectic-comm}
 
-pub syndrome-product : (rows : List Pauli) (P Q : Pauli) → syndrome rows (product P Q) ≡ addBits (syndrome rows P) (syndrome rows Q)
+pub syndrome-product : (rows : List Pauli) (P Q : Pauli)
+    → syndrome rows (product P Q) ≡ addBits (syndrome rows P) (syndrome rows Q)
 unfolding syndrome addBits zipWith
 syndrome-product [] P Q = refl
 syndrome-product (g ∷ rows) P Q = ap₂ _∷_ (anticommutes-product g P Q) (syndrome-product rows P Q)

@@ -15,7 +15,7 @@ use Rattle.pauli.specs.Lists.{readByte}
 use Rattle.pauli.specs.Masks.{dot}
 use Rattle.pauli.specs.Product.{hasPhase}
 
--- 01: "A letter is chosen by its mask bits: I 00, X 10, Z 01, Y 11, where Y = iXZ."
+-- RULES, "Letters and rows": the letter of a qubit, by its bits in the X mask and in the Z mask.
 unfoldable pub letterAt : ℕ → ℕ → Letter
 letterAt zero zero = I
 letterAt (suc a) zero = X
@@ -70,7 +70,7 @@ abbrev pub signPhase : Sign → ℕ
 signPhase Plus = 0
 signPhase Minus = 2
 
--- 01: "A signed row, + or -, has p = a·b (modulo 4), plus 2 for -."
+-- RULES, "Letters and rows": the phase of a signed row is a·b modulo 4, and for - two more.
 unfoldable pub rowPhase : Sign → ℕ → ℕ → ℕ
 rowPhase s a b = (dot a b + signPhase s) % 4
 

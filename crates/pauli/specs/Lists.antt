@@ -1,6 +1,6 @@
 -- Searches through a list, each of which stops at the first element that settles it, and the bytes of texts.
-use mathlib.Core.Bool.{Bool, true, false}
-use mathlib.Core.List.{List, [], _∷_}
+use mathlib.Core.Bool.{Bool, true, false, Bool-discrete}
+use mathlib.Core.List.{List, [], _∷_, filter}
 use mathlib.Core.Option.{Option, none, some}
 use Prim.Native.Nat.{ℕ}
 use Prim.Native.Char.{code}
@@ -22,6 +22,10 @@ module _ {A : Type 0} where
   unfoldable pub allOf : (A → Bool) → List A → Bool
   allOf test [] = true
   allOf test (x ∷ xs) = elim (test x) [ true ↦ allOf test xs | false ↦ false ]
+
+  -- the elements that pass the test
+  unfoldable pub passing : (A → Bool) → List A → List A
+  passing test xs = filter (λ x. Bool-discrete (test x) true) xs
 
   -- the one of these values that is written as the byte c
   unfoldable pub readByte : (A → ℕ) → List A → ℕ → Option A

@@ -3,7 +3,8 @@ use mathlib.Core.List.{List, [], _∷_}
 use Prim.Native.Nat.{ℕ, zero, suc, _+_, _/_, _%_}
 use lib.Bits.{bitAnd}
 
--- The ones among the lowest k bits of a mask. It ends once the rest of the mask is 0, so it takes as many steps as the mask has binary digits.
+-- The ones among the lowest k bits of a mask. It ends once the rest of the mask is 0, so it takes as many steps as the
+-- mask has binary digits.
 unfoldable pub onesAmong : ℕ → ℕ → ℕ
 onesAmong zero m = 0
 onesAmong (suc k) zero = 0
@@ -13,7 +14,7 @@ onesAmong (suc k) (suc m) = suc m % 2 + onesAmong k (suc m / 2)
 unfoldable pub countOnes : ℕ → ℕ
 countOnes m = onesAmong m m
 
--- 01: "a·b is the count of qubits at which both masks have a one."
+-- RULES, "Paulis": a·b counts the qubits at which both masks have a one.
 unfoldable pub dot : ℕ → ℕ → ℕ
 dot a b = countOnes (bitAnd a b)
 

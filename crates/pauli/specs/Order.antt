@@ -1,5 +1,5 @@
--- The order "earlier" on strings of letters, and all strings of a weight in that order.
--- 01: "'Earlier' means smaller weight, then, at the first qubit where two strings differ, the smaller letter in I, X, Y, Z."
+-- The order "earlier" on strings of letters, and all strings of a weight in that order. RULES, "Order": the lighter
+-- string is earlier; at equal weight the one with the smaller letter where they first differ.
 use mathlib.Core.Path.{_≡_}
 use mathlib.Core.Logic.{_⊎_}
 use mathlib.Core.List.{List, [], _∷_, _++_, map, flatMap}
@@ -15,7 +15,7 @@ rank X = 1
 rank Y = 2
 rank Z = 3
 
--- 01: "The weight counts the letters other than I."
+-- RULES, "Letters and rows": the weight is the number of letters other than I.
 unfoldable pub letterWeight : Letter → ℕ
 letterWeight I = 0
 letterWeight X = 1
@@ -36,7 +36,8 @@ SmallerLetter (l ∷ ls) (m ∷ ms) = (rank l < rank m) ⊎ ((l ≡ m) × Smalle
 unfoldable pub Earlier : List Letter → List Letter → Type 0
 Earlier s t = (weightOf s < weightOf t) ⊎ ((weightOf s ≡ weightOf t) × SmallerLetter s t)
 
--- All strings of n letters with weight v, the earliest first: those that begin with I, then those that begin with X, Y, Z.
+-- All strings of n letters with weight v, the earliest first: those that begin with I, then those that begin with X, Y,
+-- Z.
 unfoldable pub strings : ℕ → ℕ → List (List Letter)
 strings n zero = replicate n I ∷ []
 strings zero (suc v) = []

@@ -10,7 +10,7 @@ use Rattle.pauli.specs.Masks.{countOnes, dot}
 abbrev pub identity : Pauli
 identity = record { p = 0; a = 0; b = 0 }
 
--- 01: "The product of (p,a,b) and (p',a',b') has phase p + p' + 2(b·a') modulo 4 and masks a+a', b+b' bit by bit."
+-- RULES, "Paulis": phases add up, with 2 for each qubit at which a Z of P meets an X of Q; masks add bit by bit.
 unfoldable pub product : Pauli → Pauli → Pauli
 product P Q =
     record { p = (P .p + Q .p + 2 * dot (P .b) (Q .a)) % 4; a = bitXor (P .a) (Q .a); b = bitXor (P .b) (Q .b) }
@@ -22,7 +22,7 @@ negated P = record { p = (P .p + 2) % 4; a = P .a; b = P .b }
 unfoldable pub inverse : Pauli → Pauli
 inverse P = record { p = (3 * P .p + 2 * dot (P .b) (P .a)) % 4; a = P .a; b = P .b }
 
--- 01: "Two Paulis commute if a·b' + a'·b is even, else they anticommute." The remainder by 2 of that sum is their symplectic product.
+-- RULES, "Paulis": two Paulis commute where a·b' + a'·b is even. Its remainder by 2 is their symplectic product.
 unfoldable pub symplectic : Pauli → Pauli → ℕ
 symplectic P Q = (dot (P .a) (Q .b) + dot (Q .a) (P .b)) % 2
 
@@ -32,15 +32,15 @@ commutes P Q = eqb (symplectic P Q) 0
 unfoldable pub anticommutes : Pauli → Pauli → Bool
 anticommutes P Q = not (commutes P Q)
 
--- 01: "The weight counts the letters other than I": the qubits at which either mask has a one.
+-- RULES, "Paulis": the weight counts the qubits at which either mask has a one.
 unfoldable pub weight : Pauli → ℕ
 weight P = countOnes (bitOr (P .a) (P .b))
 
--- 01: "Phase aside, two Paulis are the same when their masks are."
+-- RULES, "Paulis": the same, phase aside, where the masks are equal.
 unfoldable pub sameMasks : Pauli → Pauli → Bool
 sameMasks P Q = eqb (P .a) (Q .a) && eqb (P .b) (Q .b)
 
--- 01: "A phase is read modulo 4." The same Pauli with its phase 0 to 3.
+-- RULES, "Paulis": a phase stands for its remainder modulo 4. The same Pauli with its phase 0 to 3.
 unfoldable pub modulo4 : Pauli → Pauli
 modulo4 P = record { p = P .p % 4; a = P .a; b = P .b }
 

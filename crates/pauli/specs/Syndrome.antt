@@ -4,7 +4,7 @@ use mathlib.Core.List.{List, map, zipWith}
 use Rattle.pauli.specs.declared.Pauli.{Pauli}
 use Rattle.pauli.specs.Product.{anticommutes}
 
--- 01: "The syndrome of a Pauli has one bit for each g row, in sheet order: 1 if they anticommute."
+-- RULES, "Decoding": a bit for each row, in their order, 1 where the Pauli anticommutes with it.
 unfoldable pub syndrome : List Pauli → Pauli → List Bool
 syndrome rows P = map (λ g. anticommutes g P) rows
 

@@ -3,7 +3,8 @@
 ghost use mathlib.Core.Path.{_≡_};
 ghost use Prim.Native.Nat.{_%_};
 ghost use Rattle.pauli.specs.Letters.{letterAt, letterOn, xBit, zBit, letterByte, readLetter, letterIn};
-ghost use Rattle.pauli.specs.Letters.{signPhase, rowPhase, rowOf, hasSign, isSignedRow, signOf, signByte, readSign, signIn};
+ghost use Rattle.pauli.specs.Letters.{signPhase, rowPhase, rowOf, hasSign, isSignedRow, signOf, signByte};
+ghost use Rattle.pauli.specs.Letters.{readSign, signIn};
 ghost use Rattle.pauli.specs.Product.{identity, product, symplectic, commutes, weight};
 
 // i^p D(a, b): the phase p is read modulo 4, a is the X part and b the Z part.

@@ -1,5 +1,5 @@
--- What holds of every element of a list: the same by places, as a test, and of lists that are joined or changed element by element. Each law goes
--- along the list. At the end stands the induction from the last element.
+-- What holds of every element of a list: the same by places, as a test, and of lists that are joined or changed element
+-- by element. Each law goes along the list. At the end stands the induction from the last element.
 use mathlib.Core.Bool.{Bool, true, false}
 use mathlib.Core.List.{List, [], _∷_, _++_, map, append-nil, append-assoc}
 use mathlib.Core.Logic.{_↔_, Iff·rfl}
@@ -46,7 +46,8 @@ module _ {A : Type 0} where
 
   pub none-of : (test : A → Bool) (xs : List A) → anyOf test xs ≡ false → All (λ x. test x ≡ false) xs
   none-of test [] h = tt
-  none-of test (x ∷ xs) h = let none = neither (test x) (anyOf test xs) (sym (any-cons test x xs) ∙ h) in (none .0, none-of test xs (none .1))
+  none-of test (x ∷ xs) h = let none = neither (test x) (anyOf test xs) (sym (any-cons test x xs) ∙ h) in
+      (none .0, none-of test xs (none .1))
 
 module _ {A : Type 0} (S : A → Type 0) where
   pub all-every : ((x : A) → S x) → (xs : List A) → All S xs
@@ -64,7 +65,8 @@ module _ {A : Type 0} (S : A → Type 0) where
   all-mapped f (x ∷ xs) = let rest = all-mapped f xs in (λ (p, ps). (p, rest .0 ps), λ (p, ps). (p, rest .1 ps))
 
 -- What holds of [], and of a list with one element more behind it, holds of every list.
-pub from-last : {A : Type 0} (S : List A → Type 0) → S [] → ((xs : List A) (x : A) → S xs → S (xs ++ x ∷ [])) → (xs : List A) → S xs
+pub from-last : {A : Type 0} (S : List A → Type 0) → S [] → ((xs : List A) (x : A) → S xs → S (xs ++ x ∷ []))
+    → (xs : List A) → S xs
 from-last {A} S none more xs = go [] xs none
   where
     go : (before xs : List A) → S before → S (before ++ xs)

@@ -1,6 +1,6 @@
--- Columns of a row read as bits a1..an, b1..bn: they add up under the product, and the pivot is the first that is one, where a machine's count of
--- zeros below a mask's lowest one finds it. What is said of the first one is proved of any list of bits. What is said of a
--- column goes by the mask in which it stands.
+-- Columns of a row read as bits a1..an, b1..bn: they add up under the product, and the pivot is the first that is one,
+-- where a machine's count of zeros below a mask's lowest one finds it. What is said of the first one is proved of any
+-- list of bits. What is said of a column goes by the mask in which it stands.
 use mathlib.Core.Bool.{true, false, _&&_, false≢true}
 use mathlib.Core.List.{List, [], _∷_, _++_}
 use mathlib.Core.Path.{_≡_, refl, ap, ap₂, sym, _∙_}
@@ -109,7 +109,8 @@ firstOne-trailing (suc k) m =
     ∙ ap (under (m % 2)) (firstOne-trailing k (m / 2))
 
 -- So a count over k bits finds the first one among n bits, or finds that there is none.
-pub firstOne-found : (n k m : ℕ) → trailingZeros k m < n → trailingZeros k m < k → firstOne (bits n m) ≡ trailingZeros k m
+pub firstOne-found : (n k m : ℕ) → trailingZeros k m < n → trailingZeros k m < k
+    → firstOne (bits n m) ≡ trailingZeros k m
 unfolding firstOne bits trailingZeros
 firstOne-found zero k m hn hk = absurd (omega arith)
 firstOne-found (suc n) zero m hn hk = absurd (omega arith)
@@ -164,22 +165,36 @@ module _ (n : ℕ) where
   bit-of c = elim (decLt c n) [
     | yes h ↦ record { mask = λ P. P .a; place = c; reads = λ P. column-x P c h; sums = λ P Q. refl; none = refl }
     | no l ↦ elim (decLt c (2 * n)) [
-      | yes h ↦ record { mask = λ P. P .b; place = c - n; reads = λ P. column-z P c (omega arith) h; sums = λ P Q. refl; none = refl }
-      | no h ↦ record { mask = λ P. 0; place = 0; reads = λ P. column-outside P c (omega arith); sums = λ P Q. refl; none = refl }
+      | yes h ↦ record {
+        mask = λ P. P .b;
+        place = c - n;
+        reads = λ P. column-z P c (omega arith) h;
+        sums = λ P Q. refl;
+        none = refl;
+      }
+      | no h ↦ record {
+        mask = λ P. 0;
+        place = 0;
+        reads = λ P. column-outside P c (omega arith);
+        sums = λ P Q. refl;
+        none = refl;
+      }
     ]
   ]
 
   pub column-product : (P Q : Pauli) (c : ℕ) → column n (product P Q) c ≡ (column n P c + column n Q c) % 2
   column-product P Q c =
       let bit = bit-of c in
-      bit .reads (product P Q) ∙ ap (λ (m : ℕ). m / 2 ^ bit .place % 2) (bit .sums P Q) ∙ xor-bit (bit .mask P) (bit .mask Q) (bit .place)
+      bit .reads (product P Q) ∙ ap (λ (m : ℕ). m / 2 ^ bit .place % 2) (bit .sums P Q)
+      ∙ xor-bit (bit .mask P) (bit .mask Q) (bit .place)
       ∙ ap₂ (λ (x y : ℕ). (x + y) % 2) (sym (bit .reads P)) (sym (bit .reads Q))
 
   pub column-lt : (P : Pauli) (c : ℕ) → column n P c < 2
   column-lt P c = omega (arith, bit-of c .reads P)
 
   pub column-identity : (c : ℕ) → column n identity c ≡ 0
-  column-identity c = let bit = bit-of c in bit .reads identity ∙ ap (λ (m : ℕ). m / 2 ^ bit .place % 2) (bit .none) ∙ rw zero-div
+  column-identity c = let bit = bit-of c in bit .reads identity ∙ ap (λ (m : ℕ). m / 2 ^ bit .place % 2) (bit .none)
+      ∙ rw zero-div
 
   -- Masks decide the columns, and so the pivot.
   pub column-masks : (P Q : Pauli) → P .a ≡ Q .a → P .b ≡ Q .b → (c : ℕ) → column n P c ≡ column n Q c
@@ -194,7 +209,12 @@ module _ (n : ℕ) where
 
   pub pivot-z : (P : Pauli) → firstOne (bits n (P .a)) ≡ n → pivot n P ≡ n + firstOne (bits n (P .b))
   unfolding pivot columns
-  pivot-z P h = omega (arith, first-right (bits n (P .a)) (bits n (P .b)) (omega (arith, length-bits n (P .a))), length-bits n (P .a))
+  pivot-z P h =
+      omega (
+        arith,
+        first-right (bits n (P .a)) (bits n (P .b)) (omega (arith, length-bits n (P .a))),
+        length-bits n (P .a),
+      )
 
   pivot-le : (P : Pauli) → pivot n P ≤ 2 * n
   unfolding pivot
@@ -209,7 +229,8 @@ module _ (n : ℕ) where
   before-pivot P c h = before-first (columns n P) c h
 
   pub one-behind-pivot : (P : Pauli) (c : ℕ) → column n P c ≡ 1 → pivot n P ≤ c
-  one-behind-pivot P c one = elim (decLt c (pivot n P)) [ yes h ↦ absurd (omega (arith, before-pivot P c h)) | no h ↦ omega arith ]
+  one-behind-pivot P c one =
+      elim (decLt c (pivot n P)) [ yes h ↦ absurd (omega (arith, before-pivot P c h)) | no h ↦ omega arith ]
 
   pub pivot-first : (P : Pauli) (c : ℕ) → column n P c ≡ 1 → ((j : ℕ) → j < c → column n P j ≡ 0) → pivot n P ≡ c
   unfolding pivot column
@@ -221,7 +242,8 @@ module _ (n : ℕ) where
       let h = on-qubits n P q in (
         zero-mask n (P .a) (h .0) (λ j l. sym (column-x P j l) ∙ zeros j (omega arith)),
         zero-mask n (P .b) (h .1)
-            (λ j l. (rw add-sub-cancel-left at (sym (column-z P (n + j) (omega arith) (omega arith)))) ∙ zeros (n + j) (omega arith)),
+            (λ j l. (rw add-sub-cancel-left at (sym (column-z P (n + j) (omega arith) (omega arith))))
+            ∙ zeros (n + j) (omega arith)),
       )
 
   pub has-pivot : (P : Pauli) → onQubits n P ≡ true → sameMasks P identity ≡ false → pivot n P < 2 * n
@@ -238,4 +260,5 @@ module _ (n : ℕ) where
   product-on-qubits P Q p q =
       let hp = on-qubits n P p in
       let hq = on-qubits n Q q in
-      ap₂ _&&_ (lt-ltb _ _ (xor-lt n (P .a) (Q .a) (hp .0) (hq .0))) (lt-ltb _ _ (xor-lt n (P .b) (Q .b) (hp .1) (hq .1)))
+      ap₂ _&&_ (lt-ltb _ _ (xor-lt n (P .a) (Q .a) (hp .0) (hq .0)))
+      (lt-ltb _ _ (xor-lt n (P .b) (Q .b) (hp .1) (hq .1)))

@@ -1,5 +1,6 @@
--- Reduced echelon form along a list, and that adding a row keeps it. Clearing a row's pivot keeps every column in which that row has no one, so
--- rows that have none at each other's pivots stay so, with the pivots where they were, and one more goes in where the pivots rise.
+-- Reduced echelon form along a list, and that adding a row keeps it. Clearing a row's pivot keeps every column in which
+-- that row has no one, so rows that have none at each other's pivots stay so, with the pivots where they were, and one
+-- more goes in where the pivots rise.
 use mathlib.Core.Bool.{Bool, true, false, cond}
 use mathlib.Core.List.{List, [], _∷_, map}
 use mathlib.Core.Logic.{_↔_, _≢_, Iff·rfl}
@@ -14,7 +15,8 @@ use Rattle.pauli.specs.declared.Pauli.{Pauli}
 use Rattle.pauli.specs.Product.{identity, product, modulo4, sameMasks}
 use Rattle.sheet.specs.Record.{onQubits}
 use Rattle.stabilizer.specs.Group.{productOf}
-use Rattle.stabilizer.specs.Canonical.{columns, column, pivot, ReducedEchelon, cleared, reduced, insertByPivot, added}
+use Rattle.stabilizer.specs.Canonical.{columns, column, pivot, ReducedEchelon, cleared, reduced, insertByPivot}
+use Rattle.stabilizer.specs.Canonical.{added}
 use Rattle.stabilizer.proofs.All.{All, all-map, all-zip, all-at, all-places, all-mapped}
 use Rattle.stabilizer.proofs.Columns.{column-product, column-lt, column-identity, product-on-qubits}
 use Rattle.stabilizer.proofs.Columns.{pivot-column, before-pivot, one-behind-pivot, pivot-first, has-pivot}
@@ -45,7 +47,8 @@ module _ (n : ℕ) where
   all-have-pivots [] e = tt
   all-have-pivots (h ∷ hs) e = (e .0, all-have-pivots hs (e .2))
 
-  apart-at : (hs : List Pauli) → Echelon hs → (i j : ℕ) → i < j → j < length hs → Apart (getD hs i identity) (getD hs j identity)
+  apart-at : (hs : List Pauli) → Echelon hs → (i j : ℕ) → i < j → j < length hs
+      → Apart (getD hs i identity) (getD hs j identity)
   apart-at [] e i j l h = absurd (omega arith)
   apart-at (g ∷ hs) e i zero l h = absurd (omega arith)
   apart-at (g ∷ hs) e zero (suc j) l h = all-at (Apart g) identity hs (e .1) j (omega arith)
@@ -58,7 +61,8 @@ module _ (n : ℕ) where
     rise = λ i j l h. apart-at hs e i j l h .rises;
   }
     where
-      alone : (i j : ℕ) → i < length hs → j < length hs → i ≢ j → column n (getD hs j identity) (pivot n (getD hs i identity)) ≡ 0
+      alone : (i j : ℕ) → i < length hs → j < length hs → i ≢ j
+          → column n (getD hs j identity) (pivot n (getD hs i identity)) ≡ 0
       alone i j hi hj other = elim (decLt i j) [
         | yes l ↦ apart-at hs e i j l hj .below
         | no l ↦ apart-at hs e j i (omega arith) hi .above
@@ -82,7 +86,8 @@ module _ (n : ℕ) where
 
   -- ---- a row is cleared
 
-  pub cleared-cases : (S : Pauli → Type 0) (h P : Pauli) → (column n P (pivot n h) ≡ 1 → S (product P h)) → (column n P (pivot n h) ≡ 0 → S P)
+  pub cleared-cases : (S : Pauli → Type 0) (h P : Pauli) → (column n P (pivot n h) ≡ 1 → S (product P h))
+      → (column n P (pivot n h) ≡ 0 → S P)
       → S (cleared n h P)
   unfolding cleared
   cleared-cases S h P one none =
@@ -93,7 +98,8 @@ module _ (n : ℕ) where
   -- It changes no column in which h has no one, and leaves none in that of h's pivot.
   cleared-keeps : (h P : Pauli) (c : ℕ) → column n h c ≡ 0 → column n (cleared n h P) c ≡ column n P c
   cleared-keeps h P c z =
-      cleared-cases (λ Q. column n Q c ≡ column n P c) h P (λ one. omega (arith, column-product n P h c, column-lt n P c)) (λ none. refl)
+      cleared-cases (λ Q. column n Q c ≡ column n P c) h P
+      (λ one. omega (arith, column-product n P h c, column-lt n P c)) (λ none. refl)
 
   cleared-column : (h P : Pauli) → pivot n h < 2 * n → column n (cleared n h P) (pivot n h) ≡ 0
   cleared-column h P l =
@@ -101,22 +107,26 @@ module _ (n : ℕ) where
       (λ one. omega (arith, column-product n P h (pivot n h), pivot-column n h l)) (λ none. none)
 
   cleared-on-qubits : (h P : Pauli) → onQubits n h ≡ true → onQubits n P ≡ true → onQubits n (cleared n h P) ≡ true
-  cleared-on-qubits h P qh qP = cleared-cases (λ Q. onQubits n Q ≡ true) h P (λ one. product-on-qubits n P h qP qh) (λ none. qP)
+  cleared-on-qubits h P qh qP =
+      cleared-cases (λ Q. onQubits n Q ≡ true) h P (λ one. product-on-qubits n P h qP qh) (λ none. qP)
 
   -- ---- a row is reduced
 
-  reduced-on-qubits : (hs : List Pauli) (P : Pauli) → OnQubits hs → onQubits n P ≡ true → onQubits n (reduced n hs P) ≡ true
+  reduced-on-qubits : (hs : List Pauli) (P : Pauli) → OnQubits hs → onQubits n P ≡ true
+      → onQubits n (reduced n hs P) ≡ true
   unfolding reduced
   reduced-on-qubits [] P qs q = q
   reduced-on-qubits (h ∷ hs) P qs q = reduced-on-qubits hs (cleared n h P) (qs .1) (cleared-on-qubits h P (qs .0) q)
 
-  reduced-keeps : (hs : List Pauli) (P : Pauli) (c : ℕ) → All (λ h. column n h c ≡ 0) hs → column n (reduced n hs P) c ≡ column n P c
+  reduced-keeps : (hs : List Pauli) (P : Pauli) (c : ℕ) → All (λ h. column n h c ≡ 0) hs
+      → column n (reduced n hs P) c ≡ column n P c
   unfolding reduced
   reduced-keeps [] P c zeros = refl
   reduced-keeps (h ∷ hs) P c zeros = reduced-keeps hs (cleared n h P) c (zeros .1) ∙ cleared-keeps h P c (zeros .0)
 
   -- What is left of a row has no one in the column of any pivot.
-  pub reduced-clear : (hs : List Pauli) (P : Pauli) → Echelon hs → All (λ h. column n (reduced n hs P) (pivot n h) ≡ 0) hs
+  pub reduced-clear : (hs : List Pauli) (P : Pauli) → Echelon hs
+      → All (λ h. column n (reduced n hs P) (pivot n h) ≡ 0) hs
   unfolding reduced
   reduced-clear [] P e = tt
   reduced-clear (h ∷ hs) P e = (
@@ -124,16 +134,19 @@ module _ (n : ℕ) where
     reduced-clear hs (cleared n h P) (e .2),
   )
 
-  selection-clear : (hs : List Pauli) (c : ℕ) → All (λ h. column n h c ≡ 0) hs → (selection : List Bool) → column n (productOf selection hs) c ≡ 0
+  selection-clear : (hs : List Pauli) (c : ℕ) → All (λ h. column n h c ≡ 0) hs → (selection : List Bool)
+      → column n (productOf selection hs) c ≡ 0
   unfolding productOf
   selection-clear hs c zeros [] = column-identity n c
   selection-clear [] c zeros (b ∷ bs) = column-identity n c
-  selection-clear (h ∷ hs) c zeros (true ∷ bs) = omega (arith, column-product n h (productOf bs hs) c, selection-clear hs c (zeros .1) bs)
+  selection-clear (h ∷ hs) c zeros (true ∷ bs) =
+      omega (arith, column-product n h (productOf bs hs) c, selection-clear hs c (zeros .1) bs)
   selection-clear (h ∷ hs) c zeros (false ∷ bs) = selection-clear hs c (zeros .1) bs
 
   -- A product of rows in echelon form with no one in the column of any pivot is I, phase aside.
   pub clear-selection : (hs : List Pauli) → Echelon hs → (selection : List Bool)
-      → All (λ h. column n (productOf selection hs) (pivot n h) ≡ 0) hs → (productOf selection hs .a ≡ 0) × (productOf selection hs .b ≡ 0)
+      → All (λ h. column n (productOf selection hs) (pivot n h) ≡ 0) hs
+      → (productOf selection hs .a ≡ 0) × (productOf selection hs .b ≡ 0)
   unfolding productOf
   clear-selection hs e [] zeros = (refl, refl)
   clear-selection [] e (b ∷ bs) zeros = (refl, refl)
@@ -153,10 +166,12 @@ module _ (n : ℕ) where
       → (pivot n h ≤ pivot n Q → S (h ∷ insertByPivot n Q hs)) → S (insertByPivot n Q (h ∷ hs))
   unfolding insertByPivot
   inserted-cases S Q h hs first later =
-      by-test (λ (t : Bool). S (elim t [ true ↦ Q ∷ h ∷ hs | false ↦ h ∷ insertByPivot n Q hs ])) (ltb (pivot n Q) (pivot n h))
+      by-test (λ (t : Bool). S (elim t [ true ↦ Q ∷ h ∷ hs | false ↦ h ∷ insertByPivot n Q hs ]))
+      (ltb (pivot n Q) (pivot n h))
       (λ t. first (ltb-true (pivot n Q) (pivot n h) t)) (λ t. later (ltb-false (pivot n Q) (pivot n h) t))
 
-  pub all-inserted : (S : Pauli → Type 0) (Q : Pauli) (hs : List Pauli) → All S (insertByPivot n Q hs) ↔ (S Q × All S hs)
+  pub all-inserted : (S : Pauli → Type 0) (Q : Pauli) (hs : List Pauli)
+      → All S (insertByPivot n Q hs) ↔ (S Q × All S hs)
   unfolding insertByPivot
   all-inserted S Q [] = Iff·rfl
   all-inserted S Q (h ∷ hs) =
@@ -168,7 +183,8 @@ module _ (n : ℕ) where
   unfolding insertByPivot
   length-inserted Q [] = refl
   length-inserted Q (h ∷ hs) =
-      inserted-cases (λ rows. length rows ≡ suc (suc (length hs))) Q h hs (λ first. refl) (λ later. ap suc (length-inserted Q hs))
+      inserted-cases (λ rows. length rows ≡ suc (suc (length hs))) Q h hs (λ first. refl)
+      (λ later. ap suc (length-inserted Q hs))
 
   module _ (Q : Pauli) (has : pivot n Q < 2 * n) where
     -- Neither row has a one in the column of the other's pivot.
@@ -188,14 +204,21 @@ module _ (n : ℕ) where
           has,
           (
             record { rises = first; below = all .0 .here; above = all .0 .there },
-            all-zip (λ g a c. record { rises = omega (arith, a .rises); below = c .here; above = c .there }) hs (e .1) (all .1),
+            all-zip (λ g a c. record { rises = omega (arith, a .rises); below = c .here; above = c .there }) hs (e .1)
+                (all .1),
           ),
           e,
         ))
         (λ later. (
           e .0,
-          all-inserted (Apart h) Q hs .1
-              (record { rises = omega (arith, clear-distinct h (all .0 .there)); below = all .0 .there; above = all .0 .here }, e .1),
+          all-inserted (Apart h) Q hs .1 (
+            record {
+              rises = omega (arith, clear-distinct h (all .0 .there));
+              below = all .0 .there;
+              above = all .0 .here;
+            },
+            e .1,
+          ),
           inserted-echelon hs (e .2) (all .1),
         ))
 
@@ -211,18 +234,21 @@ module _ (n : ℕ) where
             (λ j b. omega (arith, column-product n h Q j, before-pivot n h j b, before-pivot n Q j (omega arith)))
 
     -- So the rows stay in echelon form, and none has a one in the column of Q's pivot.
-    cleared-apart : (h g : Pauli) → column n Q (pivot n h) ≡ 0 → column n Q (pivot n g) ≡ 0 → Apart h g → Apart (cleared n Q h) (cleared n Q g)
+    cleared-apart : (h g : Pauli) → column n Q (pivot n h) ≡ 0 → column n Q (pivot n g) ≡ 0 → Apart h g
+        → Apart (cleared n Q h) (cleared n Q g)
     cleared-apart h g zh zg a = record {
       rises = rw (cleared-pivot h zh, cleared-pivot g zg) (a .rises);
       below = rw (cleared-pivot h zh) (cleared-keeps Q g (pivot n h) zh ∙ a .below);
       above = rw (cleared-pivot g zg) (cleared-keeps Q h (pivot n g) zg ∙ a .above);
     }
 
-    cleared-echelon : (hs : List Pauli) → Echelon hs → All (λ h. column n Q (pivot n h) ≡ 0) hs → Echelon (map (cleared n Q) hs)
+    cleared-echelon : (hs : List Pauli) → Echelon hs → All (λ h. column n Q (pivot n h) ≡ 0) hs
+        → Echelon (map (cleared n Q) hs)
     cleared-echelon [] e zeros = tt
     cleared-echelon (h ∷ hs) e zeros = (
       rw (cleared-pivot h (zeros .0)) (e .0),
-      all-mapped (Apart (cleared n Q h)) (cleared n Q) hs .1 (all-zip (λ g a z. cleared-apart h g (zeros .0) z a) hs (e .1) (zeros .1)),
+      all-mapped (Apart (cleared n Q h)) (cleared n Q) hs .1
+          (all-zip (λ g a z. cleared-apart h g (zeros .0) z a) hs (e .1) (zeros .1)),
       cleared-echelon hs (e .2) (zeros .1),
     )
 
@@ -233,7 +259,8 @@ module _ (n : ℕ) where
 
   module _ (hs : List Pauli) (P : Pauli) where
     pub added-cases : (S : List Pauli → Type 0) → let Q = modulo4 (reduced n hs P) in
-        (sameMasks Q identity ≡ true → S hs) → (sameMasks Q identity ≡ false → S (insertByPivot n Q (map (cleared n Q) hs))) → S (added n hs P)
+        (sameMasks Q identity ≡ true → S hs)
+        → (sameMasks Q identity ≡ false → S (insertByPivot n Q (map (cleared n Q) hs))) → S (added n hs P)
     unfolding added
     added-cases S =
         let Q = modulo4 (reduced n hs P) in
@@ -247,7 +274,8 @@ module _ (n : ℕ) where
         added-cases OnQubits (λ same. qs)
         (λ new. all-inserted (λ R. onQubits n R ≡ true) Q (map (cleared n Q) hs) .1 (
           left,
-          all-mapped (λ R. onQubits n R ≡ true) (cleared n Q) hs .1 (all-map (λ h qh. cleared-on-qubits Q h left qh) hs qs),
+          all-mapped (λ R. onQubits n R ≡ true) (cleared n Q) hs .1
+              (all-map (λ h qh. cleared-on-qubits Q h left qh) hs qs),
         ))
 
     pub added-echelon : OnQubits hs → onQubits n P ≡ true → Echelon hs → Echelon (added n hs P)
@@ -261,4 +289,5 @@ module _ (n : ℕ) where
 
     pub added-length : sameMasks (reduced n hs P) identity ≡ false → length (added n hs P) ≡ suc (length hs)
     unfolding added
-    added-length new = let Q = modulo4 (reduced n hs P) in rw (modulo4-masks, new) (length-inserted Q (map (cleared n Q) hs) ∙ ap suc (length-map hs (cleared n Q)))
+    added-length new = let Q = modulo4 (reduced n hs P) in
+        rw (modulo4-masks, new) (length-inserted Q (map (cleared n Q) hs) ∙ ap suc (length-map hs (cleared n Q)))

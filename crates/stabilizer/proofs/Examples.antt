@@ -1,7 +1,8 @@
--- The group's checks, members with their signs, and canonical generators of small row lists, and the call on records, computed.
+-- The group's checks, members with their signs, and canonical generators of small row lists, and the call on records,
+-- computed.
 use mathlib.Core.Bool.{true, false}
 use mathlib.Core.List.{List, [], _∷_, map}
-use mathlib.Core.Option.{none, some, Option·getD}
+use mathlib.Core.Option.{Option, none, some, Option·getD}
 use mathlib.Core.Path.{_≡_, refl}
 use Prim.Native.Nat.{ℕ}
 use Prim.Native.String.{String}
@@ -16,7 +17,7 @@ use Rattle.sheet.specs.declared.Refusal.{Refusal}
 use Rattle.sheet.specs.declared.Written.{Written}
 use Rattle.sheet.specs.Edges.{eightQubits, sheetA}
 use Rattle.sheet.specs.Reader.{readRow, linesReading}
-use Rattle.sheet.specs.Record.{codeOf, generators}
+use Rattle.sheet.specs.Record.{codeOf, generators, firstGeneratorAt}
 use Rattle.sheet.specs.Text.{untouched}
 use Rattle.stabilizer.specs.Canonical.{reducesToIdentity, canonicalGenerators, writeCanonical}
 use Rattle.stabilizer.specs.Checks.{minusIdentity, dependence, generatorFault, groupFault}
@@ -33,27 +34,32 @@ rows texts = map row texts
 
 -- ---- 6 to 8
 
--- "n=3 with +XII, +ZII: 6, line 4"
-clash : generatorFault (rows ("+XII" ∷ "+ZII" ∷ [])) ≡ some (Refusal.GeneratorsAnticommute 4 Family.Generator)
-unfolding rows definitions
+-- 6 to 8 of rows that stand where a sheet has them.
+fault : List String → Option Refusal
+unfolding rows
+fault texts = generatorFault firstGeneratorAt (rows texts)
+
+-- two rows of three qubits that anticommute: 6 at the second
+clash : fault ("+XII" ∷ "+ZII" ∷ []) ≡ some (Refusal.GeneratorsAnticommute 4 Family.Generator)
+unfolding fault definitions
 clash = refl
 
 -- sheets I and J: XX times ZZ is -YY
-minus : generatorFault (rows ("+XXII" ∷ "+ZZII" ∷ "+YYII" ∷ [])) ≡ some (Refusal.MinusIdentity 5 Family.Generator)
-unfolding rows definitions
+minus : fault ("+XXII" ∷ "+ZZII" ∷ "+YYII" ∷ []) ≡ some (Refusal.MinusIdentity 5 Family.Generator)
+unfolding fault definitions
 minus = refl
 
-dependent : generatorFault (rows ("+XXII" ∷ "+ZZII" ∷ "-YYII" ∷ [])) ≡ some (Refusal.DependentGenerator 5 Family.Generator)
-unfolding rows definitions
+dependent : fault ("+XXII" ∷ "+ZZII" ∷ "-YYII" ∷ []) ≡ some (Refusal.DependentGenerator 5 Family.Generator)
+unfolding fault definitions
 dependent = refl
 
 -- a row +I is a product of no row, and -I is 7
-plus-identity : generatorFault (rows ("+ZZ" ∷ "+II" ∷ [])) ≡ some (Refusal.DependentGenerator 4 Family.Generator)
-unfolding rows definitions
+plus-identity : fault ("+ZZ" ∷ "+II" ∷ []) ≡ some (Refusal.DependentGenerator 4 Family.Generator)
+unfolding fault definitions
 plus-identity = refl
 
-minus-identity : generatorFault (rows ("-II" ∷ "+ZZ" ∷ [])) ≡ some (Refusal.MinusIdentity 3 Family.Generator)
-unfolding rows definitions
+minus-identity : fault ("-II" ∷ "+ZZ" ∷ []) ≡ some (Refusal.MinusIdentity 3 Family.Generator)
+unfolding fault definitions
 minus-identity = refl
 
 -- 7 comes before 8: behind -I a row that is -I is both
@@ -62,15 +68,15 @@ unfolding rows row definitions
 minus-first = refl
 
 -- 6 over all rows comes before 7 and 8
-clash-first : generatorFault (rows ("+ZZI" ∷ "-ZZI" ∷ "+XII" ∷ [])) ≡ some (Refusal.GeneratorsAnticommute 5 Family.Generator)
-unfolding rows definitions
+clash-first : fault ("+ZZI" ∷ "-ZZI" ∷ "+XII" ∷ []) ≡ some (Refusal.GeneratorsAnticommute 5 Family.Generator)
+unfolding fault definitions
 clash-first = refl
 
--- "Document 000 table 3.3, all signs +: M1 to M5 pass 6 to 8."
+-- the eight-qubit code of the published table, all signs +, passes
 rowsOf : String → List Pauli
 rowsOf sheet = generators (linesReading (bytes sheet) .code)
 
-eight-qubits-pass : generatorFault (rowsOf eightQubits) ≡ none
+eight-qubits-pass : generatorFault firstGeneratorAt (rowsOf eightQubits) ≡ none
 unfolding rowsOf definitions
 eight-qubits-pass = refl
 
@@ -86,7 +92,8 @@ unfolding rowsOf row definitions
 not-member = refl
 
 -- XX times ZZ is -YY, and the sign asked for does not count
-member-signs : map (memberSign (rows ("+XX" ∷ "+ZZ" ∷ []))) (rows ("-ZZ" ∷ "+YY" ∷ "+XI" ∷ [])) ≡ some Plus ∷ some Minus ∷ none ∷ []
+member-signs : map (memberSign (rows ("+XX" ∷ "+ZZ" ∷ []))) (rows ("-ZZ" ∷ "+YY" ∷ "+XI" ∷ []))
+    ≡ some Plus ∷ some Minus ∷ none ∷ []
 unfolding rows definitions
 member-signs = refl
 
@@ -98,7 +105,8 @@ both-signs = refl
 -- ---- canonical generators
 
 -- of YY these leave -I, which is I, phase aside
-reduces-to-identity : map (reducesToIdentity 2 (rows ("+XX" ∷ "+ZZ" ∷ []))) (rows ("+YY" ∷ "-YY" ∷ "+XI" ∷ [])) ≡ true ∷ true ∷ false ∷ []
+reduces-to-identity : map (reducesToIdentity 2 (rows ("+XX" ∷ "+ZZ" ∷ []))) (rows ("+YY" ∷ "-YY" ∷ "+XI" ∷ []))
+    ≡ true ∷ true ∷ false ∷ []
 unfolding rows definitions
 reduces-to-identity = refl
 
@@ -107,7 +115,8 @@ canonical-a : canonicalGenerators 5 (rowsOf sheetA) ≡ rows ("+YZIZY" ∷ "+IXZ
 unfolding rowsOf rows definitions
 canonical-a = refl
 
-canonical-other-order : canonicalGenerators 5 (rows ("+ZXIXZ" ∷ "+IXZZX" ∷ "+XZZXI" ∷ "+XIXZZ" ∷ [])) ≡ canonicalGenerators 5 (rowsOf sheetA)
+canonical-other-order : canonicalGenerators 5 (rows ("+ZXIXZ" ∷ "+IXZZX" ∷ "+XZZXI" ∷ "+XIXZZ" ∷ []))
+    ≡ canonicalGenerators 5 (rowsOf sheetA)
 unfolding rowsOf rows definitions
 canonical-other-order = refl
 
@@ -126,7 +135,8 @@ canonical-phase : canonicalGenerators 2 (record { p = 4; a = 0; b = 3 } ∷ []) 
 unfolding rows definitions
 canonical-phase = refl
 
-canonical-eight : canonicalGenerators 8 (rowsOf eightQubits) ≡ rows ("+XZIYIYXZ" ∷ "+IXZYIXZY" ∷ "-IZXYZIYX" ∷ "-IIZZYYXX" ∷ "+ZZZZZZZZ" ∷ [])
+canonical-eight : canonicalGenerators 8 (rowsOf eightQubits)
+    ≡ rows ("+XZIYIYXZ" ∷ "+IXZYIXZY" ∷ "-IZXYZIYX" ∷ "-IIZZYYXX" ∷ "+ZZZZZZZZ" ∷ [])
 unfolding rowsOf rows definitions
 canonical-eight = refl
 
@@ -137,14 +147,16 @@ unfolding rows
 record2 generators = codeOf 2 1 (rows generators) (rows ("+XX" ∷ [])) (rows ("+ZI" ∷ [])) (ofLetters (Z ∷ I ∷ []))
 
 -- six bytes, and the rest of the buffer stays
-written-six : writeCanonical (record2 ("-ZZ" ∷ [])) (bytes "abcdefgh") ≡ record { answer = Written.Count 6; buffer = bytes "h=-ZZ\ngh" }
+written-six : writeCanonical (record2 ("-ZZ" ∷ [])) (bytes "abcdefgh")
+    ≡ record { answer = Written.Count 6; buffer = bytes "h=-ZZ\ngh" }
 unfolding record2 definitions
 written-six = refl
 
 -- three qubits, two generators, and a distance
 record3 : ℕ → List String → Code
 unfolding rows
-record3 d generators = codeOf 3 d (rows generators) (rows ("+IXI" ∷ [])) (rows ("+IZI" ∷ [])) (ofLetters (I ∷ Z ∷ I ∷ []))
+record3 d generators =
+    codeOf 3 d (rows generators) (rows ("+IXI" ∷ [])) (rows ("+IZI" ∷ [])) (ofLetters (I ∷ Z ∷ I ∷ []))
 
 written-rows :
     writeCanonical (record3 1 ("+XIX" ∷ "+IIX" ∷ [])) (bytes "abcdefghijklmn")
@@ -153,7 +165,8 @@ unfolding record3 definitions
 written-rows = refl
 
 -- 15 comes before 6
-clash-of-record : groupFault (record3 1 ("+XII" ∷ "+ZII" ∷ [])) ≡ some (Refusal.GeneratorsAnticommute 4 Family.Generator)
+clash-of-record : groupFault (record3 1 ("+XII" ∷ "+ZII" ∷ []))
+    ≡ some (Refusal.GeneratorsAnticommute 4 Family.Generator)
 unfolding record3 definitions
 clash-of-record = refl
 
@@ -162,7 +175,8 @@ unfolding record3 definitions
 clash-outside = refl
 
 -- 17, 7 and 15 write nothing; 7 comes before 17, and 15 before 7
-short : writeCanonical (record2 ("-ZZ" ∷ [])) (bytes "abcde") ≡ untouched (Written.Refused Refusal.ShortBuffer) (bytes "abcde")
+short : writeCanonical (record2 ("-ZZ" ∷ [])) (bytes "abcde")
+    ≡ untouched (Written.Refused Refusal.ShortBuffer) (bytes "abcde")
 unfolding record2 definitions
 short = refl
 

@@ -1,6 +1,6 @@
--- What rows generate: the products of their selections. Of rows that commute and whose squares are I it is closed under product: a row moves to its
--- place in the product, and goes away if it is there. A Pauli is looked at whole, its phase modulo 4, or phase aside, by its masks; the laws are the
--- same in both views, and are proved once.
+-- What rows generate: the products of their selections. Of rows that commute and whose squares are I it is closed under
+-- product: a row moves to its place in the product, and goes away if it is there. A Pauli is looked at whole, its phase
+-- modulo 4, or phase aside, by its masks; the laws are the same in both views, and are proved once.
 use mathlib.Core.Bool.{Bool, true, false}
 use mathlib.Core.List.{List, [], _∷_}
 use mathlib.Core.Path.{_≡_, refl, ap, ap₂, sym, _∙_}
@@ -34,7 +34,8 @@ pub modulo4-modulo4 : (P : Pauli) → modulo4 (modulo4 P) ≡ modulo4 P
 unfolding modulo4
 modulo4-modulo4 P = same-parts _ _ (mod-mod (P .p) 4) refl refl
 
-pub whole-product : (P P′ Q Q′ : Pauli) → modulo4 P ≡ modulo4 P′ → modulo4 Q ≡ modulo4 Q′ → modulo4 (product P Q) ≡ modulo4 (product P′ Q′)
+pub whole-product : (P P′ Q Q′ : Pauli) → modulo4 P ≡ modulo4 P′ → modulo4 Q ≡ modulo4 Q′
+    → modulo4 (product P Q) ≡ modulo4 (product P′ Q′)
 whole-product P P′ Q Q′ e f = ap modulo4 (sym (product-modulo4 P Q) ∙ ap₂ product e f ∙ product-modulo4 P′ Q′)
 
 pub whole-identity-l : (P : Pauli) → modulo4 (product identity P) ≡ modulo4 P
@@ -44,9 +45,11 @@ pub whole-identity-r : (P : Pauli) → modulo4 (product P identity) ≡ modulo4 
 whole-identity-r P = ap modulo4 (product-identity-r P) ∙ modulo4-modulo4 P
 
 abbrev pub whole : View
-whole = record { of = modulo4; product-as = whole-product; identity-l = whole-identity-l; identity-r = whole-identity-r }
+whole =
+    record { of = modulo4; product-as = whole-product; identity-l = whole-identity-l; identity-r = whole-identity-r }
 
-pub aside-product : (P P′ Q Q′ : Pauli) → masksOf P ≡ masksOf P′ → masksOf Q ≡ masksOf Q′ → masksOf (product P Q) ≡ masksOf (product P′ Q′)
+pub aside-product : (P P′ Q Q′ : Pauli) → masksOf P ≡ masksOf P′ → masksOf Q ≡ masksOf Q′
+    → masksOf (product P Q) ≡ masksOf (product P′ Q′)
 unfolding masksOf product
 aside-product P P′ Q Q′ e f = ap₂ (λ (X Y : Pauli). masksOf (product X Y)) e f
 
@@ -59,7 +62,8 @@ unfolding masksOf modulo4
 aside-identity-r P = ap masksOf (product-identity-r P)
 
 abbrev pub phaseAside : View
-phaseAside = record { of = masksOf; product-as = aside-product; identity-l = aside-identity-l; identity-r = aside-identity-r }
+phaseAside =
+    record { of = masksOf; product-as = aside-product; identity-l = aside-identity-l; identity-r = aside-identity-r }
 
 -- Of no rows only I is a product.
 pub none-taken : (selection : List Bool) → productOf selection [] ≡ identity
@@ -72,15 +76,19 @@ module _ (v : View) where
 
   -- It goes away where it meets itself, and so is brought to the other side, from the left and from the right.
   cancelled-l : (P R : Pauli) → v .of (product P P) ≡ v .of identity → v .of (product P (product P R)) ≡ v .of R
-  cancelled-l P R one = ap (v .of) (sym (product-assoc P P R)) ∙ v .product-as (product P P) identity R R one refl ∙ v .identity-l R
+  cancelled-l P R one = ap (v .of) (sym (product-assoc P P R)) ∙ v .product-as (product P P) identity R R one refl
+      ∙ v .identity-l R
 
   pub cancelled-r : (P S : Pauli) → v .of (product S S) ≡ v .of identity → v .of (product (product P S) S) ≡ v .of P
-  cancelled-r P S one = ap (v .of) (product-assoc P S S) ∙ v .product-as P P (product S S) identity refl one ∙ v .identity-r P
+  cancelled-r P S one = ap (v .of) (product-assoc P S S) ∙ v .product-as P P (product S S) identity refl one
+      ∙ v .identity-r P
 
-  pub brought-l : (P Q R : Pauli) → v .of (product P P) ≡ v .of identity → v .of (product P Q) ≡ v .of R → v .of Q ≡ v .of (product P R)
+  pub brought-l : (P Q R : Pauli) → v .of (product P P) ≡ v .of identity → v .of (product P Q) ≡ v .of R
+      → v .of Q ≡ v .of (product P R)
   brought-l P Q R one e = sym (cancelled-l P Q one) ∙ v .product-as P P (product P Q) R refl e
 
-  pub brought-r : (P S R : Pauli) → v .of (product S S) ≡ v .of identity → v .of (product P S) ≡ v .of R → v .of P ≡ v .of (product R S)
+  pub brought-r : (P S R : Pauli) → v .of (product S S) ≡ v .of identity → v .of (product P S) ≡ v .of R
+      → v .of P ≡ v .of (product R S)
   brought-r P S R one e = sym (cancelled-r P S one) ∙ v .product-as (product P S) R S S e refl
 
   -- ---- what rows generate
@@ -114,7 +122,8 @@ module _ (v : View) where
   unfolding productOf
   generated-skip g rows P (selection, e) = (false ∷ selection, e)
 
-  pub generated-take : (g : Pauli) (rows : List Pauli) (P : Pauli) → Generated rows P → Generated (g ∷ rows) (product g P)
+  pub generated-take : (g : Pauli) (rows : List Pauli) (P : Pauli) → Generated rows P
+      → Generated (g ∷ rows) (product g P)
   unfolding productOf
   generated-take g rows P (selection, e) = (true ∷ selection, v .product-as g g (productOf selection rows) P refl e)
 
@@ -122,20 +131,24 @@ module _ (v : View) where
   pub generates-rows : (rows : List Pauli) → All (Generated rows) rows
   generates-rows [] = tt
   generates-rows (g ∷ rows) = (
-    generated-as (g ∷ rows) (product g identity) g (v .identity-r g) (generated-take g rows identity (generated-identity rows)),
+    generated-as (g ∷ rows) (product g identity) g (v .identity-r g)
+        (generated-take g rows identity (generated-identity rows)),
     all-map (generated-skip g rows) rows (generates-rows rows),
   )
 
   -- What has I, is closed under product and has the rows has all that they generate.
   pub generated-least : (S : Pauli → Type 0) → S identity → ((P Q : Pauli) → S P → S Q → S (product P Q))
-      → ((P Q : Pauli) → v .of P ≡ v .of Q → S P → S Q) → (rows : List Pauli) → All S rows → (P : Pauli) → Generated rows P → S P
+      → ((P Q : Pauli) → v .of P ≡ v .of Q → S P → S Q) → (rows : List Pauli) → All S rows → (P : Pauli)
+      → Generated rows P → S P
   unfolding productOf
-  generated-least S one closed respects rows all P (selection, e) = respects (productOf selection rows) P e (selected selection rows all)
+  generated-least S one closed respects rows all P (selection, e) =
+      respects (productOf selection rows) P e (selected selection rows all)
     where
       selected : (selection : List Bool) (rows : List Pauli) → All S rows → S (productOf selection rows)
       selected [] rows all = one
       selected (b ∷ selection) [] all = one
-      selected (true ∷ selection) (g ∷ rows) all = closed g (productOf selection rows) (all .0) (selected selection rows (all .1))
+      selected (true ∷ selection) (g ∷ rows) all =
+          closed g (productOf selection rows) (all .0) (selected selection rows (all .1))
       selected (false ∷ selection) (g ∷ rows) all = selected selection rows (all .1)
 
   -- ---- commuting rows
@@ -143,24 +156,30 @@ module _ (v : View) where
   -- A factor moves past one that it commutes with.
   moved : (P Q R : Pauli) → Commute P Q → v .of (product P (product Q R)) ≡ v .of (product Q (product P R))
   moved P Q R c =
-      ap (v .of) (sym (product-assoc P Q R)) ∙ v .product-as (product P Q) (product Q P) R R c refl ∙ ap (v .of) (product-assoc Q P R)
+      ap (v .of) (sym (product-assoc P Q R)) ∙ v .product-as (product P Q) (product Q P) R R c refl
+      ∙ ap (v .of) (product-assoc Q P R)
 
   -- What commutes with the rows commutes with all that they generate.
-  commute-generated : (P : Pauli) (rows : List Pauli) → All (Commute P) rows → (Q : Pauli) → Generated rows Q → Commute P Q
+  commute-generated : (P : Pauli) (rows : List Pauli) → All (Commute P) rows → (Q : Pauli) → Generated rows Q
+      → Commute P Q
   commute-generated P = generated-least (Commute P) (v .identity-r P ∙ sym (v .identity-l P)) closed respects
     where
       closed : (Q R : Pauli) → Commute P Q → Commute P R → Commute P (product Q R)
-      closed Q R q r = moved P Q R q ∙ v .product-as Q Q (product P R) (product R P) refl r ∙ ap (v .of) (sym (product-assoc Q R P))
+      closed Q R q r = moved P Q R q ∙ v .product-as Q Q (product P R) (product R P) refl r
+          ∙ ap (v .of) (sym (product-assoc Q R P))
 
       respects : (Q R : Pauli) → v .of Q ≡ v .of R → Commute P Q → Commute P R
       respects Q R e q = v .product-as P P R Q refl (sym e) ∙ q ∙ v .product-as Q R P P e refl
 
-  -- Members of what commuting rows generate commute. Where the rows' squares are I, it is closed under product, and its members' squares are I.
-  pub generated-commute : (rows : List Pauli) → Commuting rows → (P Q : Pauli) → Generated rows P → Generated rows Q → Commute P Q
+  -- Members of what commuting rows generate commute. Where the rows' squares are I, it is closed under product, and its
+  -- members' squares are I.
+  pub generated-commute : (rows : List Pauli) → Commuting rows → (P Q : Pauli) → Generated rows P → Generated rows Q
+      → Commute P Q
   generated-commute rows c P Q p q =
       sym (commute-generated Q rows (all-map (λ g commutes. sym (commute-generated g rows commutes Q q)) rows c) P p)
 
-  -- A row times a selection's product is a selection's product: the row moves to its place, and goes away if it is there.
+  -- A row times a selection's product is a selection's product: the row moves to its place, and goes away if it is
+  -- there.
   abbrev TimesSelections : List Pauli → Pauli → Type 0
   TimesSelections rows g = (selection : List Bool) → Generated rows (product g (productOf selection rows))
 
@@ -177,12 +196,16 @@ module _ (v : View) where
 
       later : (g : Pauli) → All (Commute g) (h ∷ rows) → TimesSelections rows g → TimesSelections (h ∷ rows) g
       later g commutes times [] = generated-skip h rows (product g identity) (times [])
-      later g commutes times (false ∷ selection) = generated-skip h rows (product g (productOf selection rows)) (times selection)
+      later g commutes times (false ∷ selection) =
+          generated-skip h rows (product g (productOf selection rows)) (times selection)
       later g commutes times (true ∷ selection) =
-          generated-as (h ∷ rows) (product h (product g (productOf selection rows))) (product g (product h (productOf selection rows)))
-          (sym (moved g h (productOf selection rows) (commutes .0))) (generated-take h rows (product g (productOf selection rows)) (times selection))
+          generated-as (h ∷ rows) (product h (product g (productOf selection rows)))
+          (product g (product h (productOf selection rows)))
+          (sym (moved g h (productOf selection rows) (commutes .0)))
+          (generated-take h rows (product g (productOf selection rows)) (times selection))
 
-  pub generated-product : (rows : List Pauli) → Closed rows → (P Q : Pauli) → Generated rows P → Generated rows Q → Generated rows (product P Q)
+  pub generated-product : (rows : List Pauli) → Closed rows → (P Q : Pauli) → Generated rows P → Generated rows Q
+      → Generated rows (product P Q)
   generated-product rows closed P Q p q =
       generated-least Times (λ R. generated-as rows R (product identity R) (sym (v .identity-l R))) joined respects rows
       (all-map ofSelections rows (row-times rows closed)) P p Q q
@@ -192,7 +215,8 @@ module _ (v : View) where
 
       joined : (P Q : Pauli) → Times P → Times Q → Times (product P Q)
       joined P Q p q R r =
-          generated-as rows (product P (product Q R)) (product (product P Q) R) (ap (v .of) (sym (product-assoc P Q R))) (p (product Q R) (q R r))
+          generated-as rows (product P (product Q R)) (product (product P Q) R) (ap (v .of) (sym (product-assoc P Q R)))
+          (p (product Q R) (q R r))
 
       respects : (P Q : Pauli) → v .of P ≡ v .of Q → Times P → Times Q
       respects P Q e p R r = generated-as rows (product P R) (product Q R) (v .product-as P Q R R e refl) (p R r)
@@ -202,7 +226,8 @@ module _ (v : View) where
           let member = productOf selection rows in
           generated-as rows (product g member) (product g R) (v .product-as g g member R refl e) (times selection)
 
-  pub generated-square : (rows : List Pauli) → Closed rows → (P : Pauli) → Generated rows P → v .of (product P P) ≡ v .of identity
+  pub generated-square : (rows : List Pauli) → Closed rows → (P : Pauli) → Generated rows P
+      → v .of (product P P) ≡ v .of identity
   generated-square rows closed P p =
       generated-least Square (generated-identity rows, v .identity-l identity) joined respects rows
       (all-zip (λ g row square. (row, square)) rows (generates-rows rows) (closed .1)) P p .1
@@ -234,4 +259,5 @@ module _ (v : View) where
   pub generated-within : (rows others : List Pauli) → Closed others → All (Generated others) rows
       → (P : Pauli) → Generated rows P → Generated others P
   generated-within rows others closed =
-      generated-least (Generated others) (generated-identity others) (generated-product others closed) (generated-as others) rows
+      generated-least (Generated others) (generated-identity others) (generated-product others closed)
+      (generated-as others) rows

@@ -7,6 +7,7 @@ pub mod Generated
 pub mod Independent
 pub mod Members
 pub mod Reduction
+pub mod StabilizerRows
 pub mod Tests
 pub mod Theorems
 pub mod Untouched

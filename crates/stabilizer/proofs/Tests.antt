@@ -39,7 +39,8 @@ module _ {A : Type 0} (test : A → Bool) where
   any-append [] ys = refl
   any-append (x ∷ xs) ys = let rest = any-append xs ys in simp (any-cons, rest, or-assoc)
 
-pub any-map : {A B : Type 0} (test : B → Bool) (f : A → B) (xs : List A) → anyOf test (map f xs) ≡ anyOf (λ x. test (f x)) xs
+pub any-map : {A B : Type 0} (test : B → Bool) (f : A → B) (xs : List A)
+    → anyOf test (map f xs) ≡ anyOf (λ x. test (f x)) xs
 unfolding anyOf
 any-map test f [] = refl
 any-map test f (x ∷ xs) = let rest = any-map test f xs in simp (any-cons, rest)

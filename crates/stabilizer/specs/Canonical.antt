@@ -1,6 +1,5 @@
--- Canonical generators, which 01 calls tidy rows.
--- 01: "Tidy rows generate the same signed group. Read as bits a1..an, b1..bn they are in reduced echelon form: each row's first
--- one stands alone in its column, and those columns rise. Signs follow the product rule."
+-- RULES, "Canonical generators": rows of the same signed group in reduced echelon form, their signs by the product
+-- rule.
 use mathlib.Core.Bool.{Bool, true, false, cond}
 use mathlib.Core.List.{List, [], _∷_, _++_, map, foldl}
 use mathlib.Core.Logic.{_↔_, _≢_}
@@ -38,13 +37,14 @@ pivot n P = firstOne (columns n P)
 
 -- ---- what canonical generators are
 
+-- Each row has a first one, which stands alone in its column, and those columns rise.
 pub record ReducedEchelon (n : ℕ) (rows : List Pauli) : Type 0 where
   pub hasOne : (i : ℕ) → i < length rows → pivot n (getD rows i identity) < 2 * n
   pub alone : (i j : ℕ) → i < length rows → j < length rows → i ≢ j
       → column n (getD rows j identity) (pivot n (getD rows i identity)) ≡ 0
   pub rise : (i j : ℕ) → i < j → j < length rows → pivot n (getD rows i identity) < pivot n (getD rows j identity)
 
--- 01: "A phase is read modulo 4." Their phases are 0 to 3, so that rows with one group can have one list of them.
+-- Their phases are 0 to 3, so that one signed group can have one list of them.
 pub record IsCanonical (n : ℕ) (rows canonical : List Pauli) : Type 0 where
   pub sameGroup : (P : Pauli) → InGroup rows P ↔ InGroup canonical P
   pub signed : allOf (isRow n) canonical ≡ true
@@ -82,6 +82,6 @@ canonicalGenerators n rows = foldl (added n) [] rows
 unfoldable pub canonicalText : Code → List ℕ
 canonicalText c = rowLines "h=" (c .n) (canonicalGenerators (c .n) (generators c))
 
--- 01: "A call on a record gives them as their `h=` lines; checks 6 to 8 run between 15 and 17, lines as in its written sheet."
+-- RULES, "Calls and buffers": 15, then 6 to 8 with the lines of the written sheet, then 17, then the `h=` lines.
 unfoldable pub writeCanonical : Code → List ℕ → After Written
 writeCanonical c buffer = written (groupFault c) (canonicalText c) buffer

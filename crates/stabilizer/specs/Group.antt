@@ -1,5 +1,4 @@
--- The group of a list of rows.
--- 01: "The group of a sheet is all products of a selection of its g rows (the empty selection gives I)."
+-- RULES, "Admission": the group of a list of rows is all products of a selection of them; the empty one gives I.
 use mathlib.Core.Bool.{Bool, true, false, cond}
 use mathlib.Core.List.{List, [], _∷_, _++_, map}
 use mathlib.Core.Option.{Option, none, some}
@@ -11,7 +10,8 @@ use Rattle.pauli.specs.Letters.{rowOf}
 use Rattle.pauli.specs.Lists.{anyOf}
 use Rattle.pauli.specs.Product.{identity, product, sameMasks, samePauli}
 
--- The product of a selection of the rows, in their order: `true` takes a row, and rows past the selection are not taken.
+-- The product of a selection of the rows, in their order: `true` takes a row, and rows past the selection are not
+-- taken.
 unfoldable pub productOf : List Bool → List Pauli → Pauli
 productOf [] rows = identity
 productOf (b ∷ bs) [] = identity
@@ -39,6 +39,6 @@ inGroupUpToPhase rows P = anyOf (sameMasks P) (group rows)
 unfoldable pub rowInGroup : List Pauli → Sign → Pauli → Bool
 rowInGroup rows sign P = anyOf (samePauli (rowOf sign (P .a) (P .b))) (group rows)
 
--- The sign of the member that has P's masks, where there is one. For rows that pass 6 to 8 there is one such sign at most.
+-- The sign of the member that has P's masks, where there is one. For rows that pass 6 to 8 there is one at most.
 unfoldable pub memberSign : List Pauli → Pauli → Option Sign
 memberSign rows P = cond (rowInGroup rows Plus P) (some Plus) (cond (rowInGroup rows Minus P) (some Minus) none)

@@ -6,8 +6,9 @@ use native.Mathlib.Nat.{zero-add}
 use native.Mathlib.Numerals.{add-one}
 use native.Mathlib.Omega.{arith}
 use borrow.Rule.Slice.PartMut.{midOf, putMid, same-len-mid}
-use lib.ListN.{length, take, drop, set, length-append, length-drop, drop-of-length-le}
-use lib.Seq.{drop-cons, drop-drop, sets, sets-eq, set-append-seam, take-append-seam, drop-append-seam}
+use lib.ListN.{length, take, drop, set, getD, length-append, length-drop, length-set, drop-of-length-le}
+use lib.Seq.{take-suc, length-take-le, drop-cons, drop-drop, sets, sets-eq, set-append-seam, take-append-seam}
+use lib.Seq.{drop-append-seam}
 use Rattle.sheet.specs.Text.{laid}
 use Rattle.sheet.proofs.Parts.{tail-of}
 
@@ -17,7 +18,8 @@ laid-nothing buffer = refl
 
 pub length-laid : (text buffer : List ℕ) → length text ≤ length buffer → length (laid text buffer) ≡ length buffer
 unfolding laid
-length-laid text buffer room = omega (arith, length-append text (drop (length text) buffer), length-drop (length text) buffer)
+length-laid text buffer room =
+    omega (arith, length-append text (drop (length text) buffer), length-drop (length text) buffer)
 
 -- A text stored byte by byte from the front.
 pub sets-laid : (text buffer : List ℕ) → length text ≤ length buffer → sets buffer 0 text ≡ laid text buffer
@@ -36,6 +38,18 @@ set-laid text buffer end byte e room =
     ∙ set-append-seam text _ _ byte ∙ sym (append-assoc text (byte ∷ []) _)
     ∙ ap (λ (i : ℕ). (text ++ byte ∷ []) ++ drop i buffer) (sym (length-append text (byte ∷ []) ∙ add-one _))
 
+-- A text laid byte by byte: the first bytes of it, then one more.
+module _ (text buffer : List ℕ) (room : length text ≤ length buffer) where
+  pub length-taken : (place : ℕ) → place ≤ length text → length (laid (take place text) buffer) ≡ length buffer
+  length-taken place h = length-laid (take place text) buffer (omega (arith, length-take-le place text h))
+
+  pub byte-laid : (place d : ℕ) → place < length text
+      → set (laid (take place text) buffer) place (getD text place d) ≡ laid (take (place + 1) text) buffer
+  byte-laid place d h =
+      set-laid (take place text) buffer place _ (sym (length-take-le place text (omega arith))) (omega arith)
+      ∙ ap (λ (t : List ℕ). laid t buffer)
+      (sym (take-suc text place d h) ∙ ap (λ (i : ℕ). take i text) (sym (add-one place)))
+
 -- ---- a part that is lent
 
 -- What is lent of a slice from a place on, and the slice with what comes back.
@@ -53,7 +67,8 @@ length-back end l part e = same-len-mid end (length l - end) l part e
 
 back-is : (end : ℕ) (l part : List ℕ) → back end l part ≡ take end l ++ part
 back-is end l part =
-    ap (λ (rest : List ℕ). take end l ++ (part ++ rest)) (drop-of-length-le (drop end l) {i = length l - end} (omega (arith, length-drop end l)))
+    ap (λ (rest : List ℕ). take end l ++ (part ++ rest))
+    (drop-of-length-le (drop end l) {i = length l - end} (omega (arith, length-drop end l)))
     ∙ ap (λ (r : List ℕ). take end l ++ r) (append-nil part)
 
 -- A second text, laid on the part behind the first.
@@ -63,7 +78,8 @@ unfolding laid
 laid-behind first second buffer end e =
     rw (e, take-append-seam, drop-append-seam, drop-drop, ← length-append, append-assoc)
 
-pub back-laid : (first second buffer l part : List ℕ) (end : ℕ) → l ≡ laid first buffer → end ≡ length first → part ≡ laid second (lent end l)
+pub back-laid : (first second buffer l part : List ℕ) (end : ℕ) → l ≡ laid first buffer → end ≡ length first
+    → part ≡ laid second (lent end l)
     → back end l part ≡ laid (first ++ second) buffer
 back-laid first second buffer l part end p e q =
     back-is end l part ∙ ap (λ (r : List ℕ). take end l ++ r) (q ∙ ap (laid second) (tail-of end l))
@@ -90,8 +106,18 @@ module _ {text buffer l : List ℕ} {end : ℕ} (held : Holds text buffer l end)
   pub room-behind : (more : List ℕ) → length (text ++ more) ≤ length buffer → length more ≤ length (lent end l)
   room-behind more room = omega (arith, length-append text more, length-lent end l)
 
+  -- One byte was stored behind it.
+  pub holds-byte : (byte : ℕ) → end < length l → Holds (text ++ byte ∷ []) buffer (set l end byte) (end + 1)
+  holds-byte byte room = record {
+    content = ap (λ (l : List ℕ). set l end byte) (held .content)
+        ∙ set-laid text buffer end byte (held .count) (omega (arith, held .size));
+    count = omega (arith, held .count, length-append text (byte ∷ []));
+    size = length-set l end byte ∙ held .size;
+  }
+
   -- More text was laid on the part behind it.
-  pub holds-more : {part : List ℕ} {m : ℕ} (more : List ℕ) → m ≡ length more → part ≡ laid more (lent end l) → length part ≡ length (lent end l)
+  pub holds-more : {part : List ℕ} {m : ℕ} (more : List ℕ) → m ≡ length more → part ≡ laid more (lent end l)
+      → length part ≡ length (lent end l)
       → Holds (text ++ more) buffer (back end l part) (end + m)
   holds-more {part} more e q kept =
       record {

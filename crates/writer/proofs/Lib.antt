@@ -1,6 +1,6 @@
 -- The laws that the proofs of the functions share.
 pub mod Laid
-pub mod Written
+pub mod Numbers
 pub mod Lines
 pub mod Rows
 pub mod Sheet

@@ -32,7 +32,8 @@ rows-more key n (Q ∷ rows) P =
 -- The lines of the first rows of a list, with any key.
 module _ (text : String) (key : ℕ) (keyed : bytes text ≡ key ∷ 61 ∷ []) (n : ℕ) (rows : List Pauli) where
   pub first-more : (place : ℕ) → place < length rows
-      → rowLines text n (take place rows) ++ rowLineText key n (getD rows place identity) ≡ rowLines text n (take (place + 1) rows)
+      → rowLines text n (take place rows) ++ rowLineText key n (getD rows place identity)
+      ≡ rowLines text n (take (place + 1) rows)
   first-more place h =
       ap (λ (row : List ℕ). rowLines text n (take place rows) ++ row) (keyed-line text key n _ keyed)
       ∙ sym (rows-more text n (take place rows) _)
@@ -40,7 +41,8 @@ module _ (text : String) (key : ℕ) (keyed : bytes text ≡ key ∷ 61 ∷ []) 
 
   length-first : (count : ℕ) → count ≤ length rows → length (rowLines text n (take count rows)) ≡ count * (n + 4)
   length-first count h =
-      length-rowLines text n (take count rows) (ap length keyed) ∙ ap (λ (k : ℕ). k * (n + 4)) (length-take-le count rows h)
+      length-rowLines text n (take count rows) (ap length keyed)
+      ∙ ap (λ (k : ℕ). k * (n + 4)) (length-take-le count rows h)
 
   pub first-room : (place count : ℕ) → place < count → count ≤ length rows
       → length (rowLines text n (take place rows)) + (n + 4) ≤ length (rowLines text n (take count rows))
@@ -54,7 +56,8 @@ module _ (family : Family) (c : Code) where
   no-lines = refl
 
   pub lines-more : (place : ℕ) → place < length (rowsOf family c)
-      → familyText family c place ++ rowLineText (keyByte family) (c .n) (getD (rowsOf family c) place identity) ≡ familyText family c (place + 1)
+      → familyText family c place ++ rowLineText (keyByte family) (c .n) (getD (rowsOf family c) place identity)
+      ≡ familyText family c (place + 1)
   unfolding familyText
   lines-more = first-more (rowKey family) (keyByte family) (family-key family) (c .n) (rowsOf family c)
 

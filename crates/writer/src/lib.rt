@@ -1,5 +1,5 @@
-// The writer of a sheet. Each line has a writer of its own, which is lent the output from the line's first byte onward and answers how
-// many bytes the line has.
+// The writer of a sheet. Each line has a writer of its own, which is lent the output from the line's first byte onward
+// and answers how many bytes the line has.
 use pauli::Pauli;
 use sheet::Code;
 use sheet::Family;
@@ -7,17 +7,17 @@ use sheet::Refusal;
 use sheet::Written;
 ghost use mathlib.Core.Bool.{true};
 ghost use mathlib.Core.Path.{_≡_};
-ghost use Prim.Native.Nat.{_≤_, _<_};
+ghost use Prim.Native.Nat.{_≤_};
 ghost use lib.ListN.{length};
 ghost use Rattle.pauli.specs.Letters.{letterText};
-ghost use Rattle.sheet.specs.Record.{rowsOf, withinLimits};
-ghost use Rattle.sheet.specs.Text.{laid};
+ghost use Rattle.sheet.specs.Record.{mostQubits, rowsOf, withinLimits};
+ghost use Rattle.sheet.specs.Text.{laid, decimal};
 ghost use Rattle.sheet.specs.Writer.{sheetText, writeSheet};
-ghost use Rattle.writer.specs.Lines.{numberText, rowLineText, writeRow, familyText, claimText};
+ghost use Rattle.writer.specs.Lines.{numberText, writeNumber, rowLineText, writeRow, familyText, claimText};
 
 // The letters of a row, one for each of n qubits.
 fn letters(out: &mut [u8], n: usize, row: Pauli)
-    requires { ⌜ n ≤ 24 ⌝ }
+    requires { ⌜ n ≤ mostQubits ⌝ }
     requires { ⌜ n ≤ length (now out) ⌝ }
     ensures { λ _. ⌜ now (out .exit) ≡ laid (letterText n row) (now (out .entry)) ⌝ }
 {
@@ -28,29 +28,59 @@ fn letters(out: &mut [u8], n: usize, row: Pauli)
     }
 }
 
-// The line of a number m below 100: `key=m`.
-fn number_line(out: &mut [u8], key: u8, m: usize) -> usize
-    requires { ⌜ m < 100 ⌝ }
-    requires { ⌜ length (numberText key m) ≤ length (now out) ⌝ }
-    ensures { λ r. ⌜ r ≡ length (numberText key m) ⌝ }
-    ensures { λ _. ⌜ now (out .exit) ≡ laid (numberText key m) (now (out .entry)) ⌝ }
+// The bytes of a text.
+fn put(out: &mut [u8], text: &[u8])
+    requires { ⌜ length (now text) ≤ length (now out) ⌝ }
+    ensures { λ _. ⌜ now (out .exit) ≡ laid (now (text .entry)) (now (out .entry)) ⌝ }
 {
-    out[0] = key;
-    out[1] = b'=';
-    if m < 10 {
-        out[2] = b'0' + m as u8;
-        out[3] = b'\n';
-        return 4;
+    let mut place: usize = 0;
+    while place < text.len() {
+        out[place] = text[place];
+        place += 1;
     }
-    out[2] = b'0' + (m / 10) as u8;
-    out[3] = b'0' + (m % 10) as u8;
-    out[4] = b'\n';
-    5
+}
+
+// How many digits a number has.
+fn digit_count(m: usize) -> usize
+    ensures { λ r. ⌜ r ≡ length (decimal m) ⌝ }
+{
+    if m < 10 {
+        return 1;
+    }
+    digit_count(m / 10) + 1
+}
+
+// The digits of a number, those of its tenth first.
+fn digits(out: &mut [u8], m: usize) -> usize
+    requires { ⌜ length (decimal m) ≤ length (now out) ⌝ }
+    ensures { λ r. ⌜ r ≡ length (decimal m) ⌝ }
+    ensures { λ _. ⌜ now (out .exit) ≡ laid (decimal m) (now (out .entry)) ⌝ }
+{
+    if m < 10 {
+        out[0] = b'0' + m as u8;
+        return 1;
+    }
+    let end = digits(out, m / 10);
+    out[end] = b'0' + (m % 10) as u8;
+    end + 1
+}
+
+// The line of a number: its key, its digits.
+fn number_line(out: &mut [u8], key: &[u8], m: usize) -> usize
+    requires { ⌜ length (numberText (now key) m) ≤ length (now out) ⌝ }
+    ensures { λ r. ⌜ r ≡ length (numberText (now (key .entry)) m) ⌝ }
+    ensures { λ _. ⌜ now (out .exit) ≡ laid (numberText (now (key .entry)) m) (now (out .entry)) ⌝ }
+{
+    put(out, key);
+    let mut end = key.len();
+    end += digits(&mut out[end..], m);
+    out[end] = b'\n';
+    end + 1
 }
 
 // The line of a row: its key, its sign, its letters.
 fn row_line(out: &mut [u8], key: u8, n: usize, row: Pauli) -> usize
-    requires { ⌜ n ≤ 24 ⌝ }
+    requires { ⌜ n ≤ mostQubits ⌝ }
     requires { ⌜ length (rowLineText key n row) ≤ length (now out) ⌝ }
     ensures { λ r. ⌜ r ≡ length (rowLineText key n row) ⌝ }
     ensures { λ _. ⌜ now (out .exit) ≡ laid (rowLineText key n row) (now (out .entry)) ⌝ }
@@ -65,7 +95,7 @@ fn row_line(out: &mut [u8], key: u8, n: usize, row: Pauli) -> usize
 
 // The line of the claimed logical: its letters.
 fn claim_line(out: &mut [u8], n: usize, row: Pauli) -> usize
-    requires { ⌜ n ≤ 24 ⌝ }
+    requires { ⌜ n ≤ mostQubits ⌝ }
     requires { ⌜ length (claimText n row) ≤ length (now out) ⌝ }
     ensures { λ r. ⌜ r ≡ length (claimText n row) ⌝ }
     ensures { λ _. ⌜ now (out .exit) ≡ laid (claimText n row) (now (out .entry)) ⌝ }
@@ -79,7 +109,7 @@ fn claim_line(out: &mut [u8], n: usize, row: Pauli) -> usize
 
 // The lines of the first `count` rows of a family.
 fn row_lines(out: &mut [u8], code: Code, family: Family, count: usize) -> usize
-    requires { ⌜ code .n ≤ 24 ⌝ }
+    requires { ⌜ code .n ≤ mostQubits ⌝ }
     requires { ⌜ count ≤ length (rowsOf family code) ⌝ }
     requires { ⌜ length (familyText family code count) ≤ length (now out) ⌝ }
     ensures { λ r. ⌜ r ≡ length (familyText family code count) ⌝ }
@@ -104,9 +134,9 @@ fn sheet_lines(out: &mut [u8], code: Code) -> usize
 {
     let n = code.n;
     let r = code.r;
-    let k = n - r;
-    let mut end = number_line(out, b'n', n);
-    end += number_line(&mut out[end..], b'd', code.d);
+    let k = sheet::pair_count(n, r);
+    let mut end = number_line(out, b"n=", n);
+    end += number_line(&mut out[end..], b"d=", code.d);
     end += row_lines(&mut out[end..], code, Family::Generator, r);
     end += row_lines(&mut out[end..], code, Family::LogicalX, k);
     end += row_lines(&mut out[end..], code, Family::LogicalZ, k);
@@ -114,22 +144,21 @@ fn sheet_lines(out: &mut [u8], code: Code) -> usize
     end
 }
 
-// How many bytes the sheet has, of a record within limits: 4 or 5 in the n line, 4 in the d line, n + 4 in each row's, n + 3 in the w line.
+// How many bytes the sheet has, of a record within limits: three more than its digits in the lines of n and d, n + 4 in
+// each row's, n + 3 in the w line.
 fn sheet_length(code: Code) -> usize
     requires { ⌜ withinLimits code ≡ true ⌝ }
     ensures { λ r. ⌜ r ≡ length (sheetText code) ⌝ }
 {
     let n = code.n;
-    let rows = code.r + 2 * (n - code.r);
-    let rest = 4 + rows * (n + 4) + (n + 3);
-    if n < 10 {
-        return 4 + rest;
-    }
-    5 + rest
+    let r = code.r;
+    let rows = r + 2 * sheet::pair_count(n, r);
+    digit_count(n) + digit_count(code.d) + 6 + rows * (n + 4) + (n + 3)
 }
 
-// The sheet of a record, into an output buffer: 15 where the record is outside its limits, then 17 where the buffer is shorter than the
-// sheet, then the sheet's bytes and their count. The bytes behind them stay, and a refusal leaves the whole buffer.
+// The sheet of a record, into an output buffer: 15 where the record is outside its limits, then 17 where the buffer is
+// shorter than the sheet, then the sheet's bytes and their count. The bytes behind them stay, and a refusal leaves the
+// whole buffer.
 pub fn write_sheet(code: Code, out: &mut [u8]) -> Written
     ensures { λ r. ⌜ r ≡ (writeSheet code (now (out .entry))) .answer ⌝ }
     ensures { λ _. ⌜ now (out .exit) ≡ (writeSheet code (now (out .entry))) .buffer ⌝ }
@@ -143,17 +172,36 @@ pub fn write_sheet(code: Code, out: &mut [u8]) -> Written
     Written::Count(sheet_lines(out, code))
 }
 
-// The line of one row by itself, into an output buffer: 15 where there are more than 24 qubits, then 17 where the buffer is shorter than the
-// line, then the line's bytes and their count. Whatever the row is, its sign is - where it has not that of +, and mask bits above qubit n are not shown.
+// The line of one row by itself, into an output buffer: 15 where n is not 2 to 24, then 17 where the buffer is shorter
+// than the line, then the line's bytes and their count. Whatever the row is, its sign is - where it has not that of +,
+// and mask bits above qubit n are not shown.
 pub fn write_row(key: u8, n: usize, row: Pauli, out: &mut [u8]) -> Written
     ensures { λ r. ⌜ r ≡ (writeRow key n row (now (out .entry))) .answer ⌝ }
     ensures { λ _. ⌜ now (out .exit) ≡ (writeRow key n row (now (out .entry))) .buffer ⌝ }
 {
-    if n > 24 {
+    if n < 2 {
+        return Written::Refused(Refusal::RecordLimits);
+    }
+    if n > sheet::MOST_QUBITS {
         return Written::Refused(Refusal::RecordLimits);
     }
     if out.len() < n + 4 {
         return Written::Refused(Refusal::ShortBuffer);
     }
     Written::Count(row_line(out, key, n, row))
+}
+
+// The line of one number by itself, into an output buffer: 17 where the buffer is shorter than the line, then the
+// line's bytes and their count. The key is all that stands before the digits.
+pub fn write_number(key: &[u8], m: usize, out: &mut [u8]) -> Written
+    ensures { λ r. ⌜ r ≡ (writeNumber (now (key .entry)) m (now (out .entry))) .answer ⌝ }
+    ensures { λ _. ⌜ now (out .exit) ≡ (writeNumber (now (key .entry)) m (now (out .entry))) .buffer ⌝ }
+{
+    if out.len() < key.len() {
+        return Written::Refused(Refusal::ShortBuffer);
+    }
+    if out.len() - key.len() < digit_count(m) + 1 {
+        return Written::Refused(Refusal::ShortBuffer);
+    }
+    Written::Count(number_line(out, key, m))
 }

@@ -1,4 +1,5 @@
--- The slice holds the lines of the rows that were passed, and `end` is their length; each turn lays the next line behind them.
+-- The slice holds the lines of the rows that were passed, and `end` is their length; each turn lays the next line
+-- behind them.
 use mathlib.Core.Bool.{Bool, true, false, false≢true}
 use mathlib.Core.List.{List, flatMap}
 use mathlib.Core.Path.{_≡_, refl, ap, sym, _∙_}
@@ -22,7 +23,8 @@ use Rattle.canonical.proofs.canonical_lines.Statement.{statement}
 use Rattle.canonical.proofs.canonical_lines.Tie as tie
 
 abbrev Inv-loop : tie.InvT-loop
-Inv-loop out₀ n reduced count end₀ place₀ out end place = (place ≤ count) × Holds (rowLines "h=" n (take place (reduced .rows))) out₀ out end
+Inv-loop out₀ n reduced count end₀ place₀ out end place =
+    (place ≤ count) × Holds (rowLines "h=" n (take place (reduced .rows))) out₀ out end
 
 abbrev μ-loop : tie.MeasureT-loop
 μ-loop out₀ n reduced count end₀ place₀ out end place = count - place
@@ -39,15 +41,17 @@ few : (c : tie.Start Inv-loop μ-loop) → c .args .t3 .count ≤ length (c .arg
 few c = omega (arith, c .pre, room-of (c .args .t3) (c .good .1 .1 .0))
 
 -- The next line has room.
-room : (c : tie.In-loop Inv-loop μ-loop) → c .before .loop .end + (start c .args .n + 4) ≤ length (start c .args .out .now)
+room : (c : tie.In-loop Inv-loop μ-loop)
+    → c .before .loop .end + (start c .args .n + 4) ≤ length (start c .args .out .now)
 unfolding bytes rowsIn
 room c =
     let s = start c in
     omega (
       arith,
       c .before .loop .inv .1 .count,
-      s .pre .1 .1,
-      first-room "h=" 104 refl (s .args .n) (rows c) (c .before .loop .place) (s .args .t3 .count) (c .loop-test .taken) (few s),
+      s .pre .1 .1 .1,
+      first-room "h=" 104 refl (s .args .n) (rows c) (c .before .loop .place) (s .args .t3 .count) (c .loop-test .taken)
+          (few s),
     )
 
 -- ---- behind the line
@@ -62,14 +66,22 @@ abbrev part : tie.In-loop Inv-loop μ-loop → List ℕ
 part c = lent (c .before .loop .end) (c .before .loop .out)
 
 -- It was written.
-wrote : (c : tie.After-write-row Inv-loop μ-loop) → (c .write-row .result ≡ Written.Count (length (text (turn c)))) × (c .write-row .last .1 .1 .1 .0 ≡ laid (text (turn c)) (part (turn c)))
+wrote : (c : tie.After-write-row Inv-loop μ-loop)
+    → (c .write-row .result ≡ Written.Count (length (text (turn c))))
+    × (c .write-row .last .1 .1 .1 .0 ≡ laid (text (turn c)) (part (turn c)))
 wrote c =
     let t = turn c in
     let n = start t .args .n in
     let P = getD (rows t) (t .before .loop .place) identity in
     let fits : length (text t) ≤ length (part t) =
-    omega (arith, room t, length-rowLineText 104 n P, length-lent (t .before .loop .end) (t .before .loop .out), t .before .loop .inv .1 .size) in
-    let after = row-has-room 104 n P (part t) (start t .pre .0) fits in
+    omega (
+      arith,
+      room t,
+      length-rowLineText 104 n P,
+      length-lent (t .before .loop .end) (t .before .loop .out),
+      t .before .loop .inv .1 .size,
+    ) in
+    let after = row-has-room 104 n P (part t) (start t .pre .0) (start t .pre .1 .0) fits in
     (c .write-row .ensures .0 ∙ ap (λ a. a .answer) after, c .write-row .ensures .1 ∙ ap (λ a. a .buffer) after)
 
 abbrev countOf : Written → ℕ
@@ -94,14 +106,16 @@ held : (c : tie.After-line Inv-loop μ-loop)
     → let t = turn (written c) in
     let s = start t in
     Holds (rowLines "h=" (s .args .n) (take (t .before .loop .place + 1) (rows t))) (s .args .out .now)
-    (back (t .before .loop .end) (t .before .loop .out) (written c .write-row .last .1 .1 .1 .0)) (t .before .loop .end + c .line .given .0 .0)
+    (back (t .before .loop .end) (t .before .loop .out) (written c .write-row .last .1 .1 .1 .0))
+    (t .before .loop .end + c .line .given .0 .0)
 unfolding bytes
 held c =
     let t = turn (written c) in
     let s = start t in
     let call = written c .write-row in
     holds-as (holds-more (t .before .loop .inv .1) _ (length-is c) (wrote (written c) .1) (call .kept .1 .1 .1 .0))
-    (first-more "h=" 104 refl (s .args .n) (rows t) (t .before .loop .place) (omega (arith, few s, t .loop-test .taken)))
+    (first-more "h=" 104 refl (s .args .n) (rows t) (t .before .loop .place)
+    (omega (arith, few s, t .loop-test .taken)))
 
 -- ---- the needs
 
@@ -110,10 +124,10 @@ unfolding rowLines flatMap
 loop-holds c = (search needs, holds-nothing (c .before .args .out .now))
 
 mul-write-row : tie.Need-mul-write-row Inv-loop μ-loop
-mul-write-row c = let short = start c .pre .1 .0 in search needs
+mul-write-row c = let short = start c .pre .1 .1 .0 in search needs
 
 element-copy-out-write-row : tie.Need-element-copy-out-write-row Inv-loop μ-loop
-element-copy-out-write-row c = omega (arith, start c .pre .1 .0, c .loop-test .taken)
+element-copy-out-write-row c = omega (arith, start c .pre .1 .1 .0, c .loop-test .taken)
 
 sub-write-row : tie.Need-sub-write-row Inv-loop μ-loop
 sub-write-row c = omega (arith, room (c .before), c .before .before .loop .inv .1 .size)

@@ -8,10 +8,10 @@ use lib.ListN.{length}
 use borrow.Author.Needs.{needs}
 use Rattle.sheet.specs.declared.Code.{Code}
 use Rattle.sheet.specs.declared.Written.{Written}
-use Rattle.sheet.specs.Record.{generators}
+use Rattle.sheet.specs.Record.{mostQubits, generators}
 use Rattle.sheet.specs.Text.{laid, untouched}
 use Rattle.sheet.specs.Writer.{rowLines}
-use Rattle.writer.proofs.Written.{written-fault}
+use Rattle.sheet.proofs.WrittenText.{written-fault}
 use Rattle.stabilizer.specs.Canonical.{canonicalGenerators, canonicalText, writeCanonical}
 use Rattle.stabilizer.specs.Checks.{groupFault}
 use Rattle.elimination.specs.declared.ReducedRows.{ReducedRows}
@@ -39,7 +39,7 @@ module _ (c : tie.After-enum-told) where
   found : reducedRows ≡ reducedOf (code .n) (canonicalGenerators (code .n) (generators code))
   found = rows-told code (checks .eliminate .ensures) (c .enum-told .given .1)
 
-  few : (code .n ≤ 24) × (reducedRows .count < 24)
+  few : (2 ≤ code .n) × (code .n ≤ mostQubits) × (reducedRows .count < mostQubits)
   few = omega (arith, qubits-few code passes, count-few code passes reducedRows found)
 
   text : rowLines "h=" (code .n) (rowsIn reducedRows) ≡ canonicalText code
@@ -50,7 +50,8 @@ module _ (c : tie.After-enum-told) where
 abbrev passed : tie.Else1 → tie.After-enum-told
 passed c = c .before .before .before
 
-room : (c : tie.Else1) → let p = passed c in length (canonicalText (code p)) ≤ length (checks p .before .before .args .out .now)
+room : (c : tie.Else1) → let p = passed c in
+    length (canonicalText (code p)) ≤ length (checks p .before .before .args .out .now)
 room c = let p = passed c in omega (arith, c .if1 .left, length-is (code p) (passes p) (reducedRows p) (found p))
 
 -- ---- the needs
@@ -60,7 +61,9 @@ unfolding writeCanonical untouched
 returns c =
     let checks = c .before .before .before in
     let a = checks .before .before .args in
-    let e = sym (written-fault (canonicalText (a .code)) (a .out .now) (sym (fault-told (a .code) (checks .eliminate .ensures) (c .before .answer .given .1)))) in
+    let e = sym
+    (written-fault (canonicalText (a .code)) (a .out .now)
+    (sym (fault-told (a .code) (checks .eliminate .ensures) (c .before .answer .given .1)))) in
     (ap (λ after. after .answer) e, ap (λ after. after .buffer) e)
 
 add-if1 : tie.Need-add-if1
@@ -70,7 +73,7 @@ mul-if1 : tie.Need-mul-if1
 mul-if1 c =
     let p = c .before .before in
     let short = few p in
-    let rows : reducedRows p .count ≤ 24 = omega (arith, short) in
+    let rows : reducedRows p .count ≤ mostQubits = omega (arith, short) in
     let width : code p .n + 4 ≤ 28 = omega (arith, short) in
     let product = mul-le-mul rows width in
     record { fits = omega (arith, product) }
@@ -80,14 +83,16 @@ unfolding untouched
 returns-2 c =
     let p = c .before .before .before in
     let a = checks p .before .before .args in
-    let e = sym (too-short (a .code) (passes p) (a .out .now) (omega (arith, c .if1 .taken, length-is (a .code) (passes p) (reducedRows p) (found p)))) in
+    let e = sym
+    (too-short (a .code) (passes p) (a .out .now)
+    (omega (arith, c .if1 .taken, length-is (a .code) (passes p) (reducedRows p) (found p)))) in
     (ap (λ after. after .answer) e, ap (λ after. after .buffer) e)
 
 canonical-lines-requires : tie.Need-canonical-lines-requires
 canonical-lines-requires c κs =
     let p = passed (c .before) in
     let short = few p in
-    (short .0, (omega (arith, short), omega (arith, room (c .before), ap length (text p))))
+    (short .0, (short .1, (omega (arith, short), omega (arith, room (c .before), ap length (text p)))))
 
 returns-3 : tie.Need-returns-3
 returns-3 c =

@@ -7,7 +7,9 @@ use Rattle.elimination.proofs.bit.Statement.{statement}
 use Rattle.elimination.proofs.bit.Tie as tie
 
 returns-2 : tie.Need-returns-2
-returns-2 c = ap (λ (m : ℕ). m % 2) (sym (no-high-bits 32 (c .before .args .m) (c .before .args .place) (search needs) (search needs)))
+returns-2 c =
+    ap (λ (m : ℕ). m % 2)
+    (sym (no-high-bits 32 (c .before .args .m) (c .before .args .place) (search needs) (search needs)))
 
 pub bit-spec : {M : Type 1} → statement M
 bit-spec = tie.close (tie.spec (λ c. search needs) (λ c. search needs) (λ c. search needs) returns-2)

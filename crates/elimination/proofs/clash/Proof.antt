@@ -1,35 +1,54 @@
--- The rows are tried in turn, each against those before it.
+-- 6 is found at the first row that clashes with one before it: the rows are tried in turn, and what the check finds
+-- from here on is what it finds from the beginning.
 use mathlib.Core.Bool.{Bool}
 use mathlib.Core.List.{[]}
+use mathlib.Core.Option.{Option}
 use mathlib.Core.Path.{_≡_, refl, ap, sym, _∙_}
 use Prim.Native.Nat.{_+_, _-_, _<_, _≤_}
 use native.Mathlib.Omega.{arith}
 use lib.ListN.{length}
+use Rattle.sheet.specs.declared.Code.{Code}
 use Rattle.sheet.specs.declared.Family.{Family}
 use Rattle.sheet.specs.declared.Refusal.{Refusal}
 use Rattle.sheet.specs.Refusals.{refuseIf, _then_}
-use Rattle.sheet.specs.Record.{generators, generatorsAt}
+use Rattle.sheet.specs.Record.{generatorRoom, generators, generatorsAt}
 use Rattle.sheet.proofs.Limits.{limits}
 use Rattle.sheet.proofs.ArrayLengths.{sized-of}
 use Rattle.stabilizer.specs.Checks.{firstFault, clash}
-use Rattle.elimination.proofs.Walk.{Left, fault-at, fault-end}
+use Rattle.elimination.proofs.Walk.{Left, fault-start, fault-at, fault-end}
 use borrow.Author.Needs.{needs}
 use Rattle.elimination.proofs.clash.Statement.{statement}
 use Rattle.elimination.proofs.clash.Tie as tie
 
 abbrev Inv-loop : tie.InvT-loop
-Inv-loop code count place₀ place = (place ≤ count) × (Left clash (code .g) count place 3 ≡ firstFault clash [] generatorsAt (generators code))
+Inv-loop code count first place₀ place =
+    (place ≤ count) × (Left clash (code .g) count place first ≡ firstFault clash [] first (generators code))
 
 abbrev μ-loop : tie.MeasureT-loop
-μ-loop code count place₀ place = count - place
+μ-loop code count first place₀ place = count - place
 
-abbrev start : tie.At-loop Inv-loop μ-loop → tie.Start Inv-loop μ-loop
+-- ---- before the loop
+
+abbrev start : tie.At-loop Inv-loop μ-loop → tie.After-generators-at Inv-loop μ-loop
 start c = c .before
 
-count-few : (c : tie.Start Inv-loop μ-loop) → (c .args .code .r ≤ length (c .args .code .g)) × (c .args .code .r < 24)
-count-few c =
-    let l = limits (c .args .code) (c .pre) in
-    omega (arith, l .qubits, l .generatorCount, sized-of (c .args .code) (c .good .0) .roomG)
+module _ (c : tie.After-generators-at Inv-loop μ-loop) where
+  abbrev code : Code
+  code = c .before .args .code
+
+  count-few : (code .r ≤ length (code .g)) × (code .r < generatorRoom)
+  count-few =
+      let l = limits code (c .before .pre) in
+      omega (arith, l .qubits, l .generatorCount, sized-of code (c .before .good .0) .roomG)
+
+  line-small : c .generators-at .result ≤ 3
+  unfolding generatorsAt
+  line-small = omega (arith, c .generators-at .ensures)
+
+  -- What is found by the line of the first generator.
+  by-line : {fault : Option Refusal} → fault ≡ firstFault clash [] (c .generators-at .result) (generators code)
+      → fault ≡ firstFault clash [] (generatorsAt code) (generators code)
+  by-line e = e ∙ ap (λ line. firstFault clash [] line (generators code)) (c .generators-at .ensures)
 
 -- ---- the row here
 
@@ -37,33 +56,34 @@ abbrev at : tie.After-clashes Inv-loop μ-loop → tie.At-loop Inv-loop μ-loop
 at c = c .before .before
 
 here : {t : Bool} (c : tie.After-clashes Inv-loop μ-loop) → c .clashes .result ≡ t
-    → let loop = at c in
-    let code = start loop .args .code in
-    let place = loop .loop .place in
-    (refuseIf t (Refusal.GeneratorsAnticommute (3 + place) Family.Generator) then Left clash (code .g) (code .r) (place + 1) 3)
-    ≡ firstFault clash [] generatorsAt (generators code)
+    → let s = start (at c) in
+    let place = at c .loop .place in
+    let line = s .generators-at .result in
+    (refuseIf t (Refusal.GeneratorsAnticommute (line + place) Family.Generator)
+    then Left clash (code s .g) (code s .r) (place + 1) line)
+    ≡ firstFault clash [] line (generators (code s))
 unfolding clash
 here c e =
-    let loop = at c in
-    let code = start loop .args .code in
-    let place = loop .loop .place in
-    ap (λ t. refuseIf t (Refusal.GeneratorsAnticommute (3 + place) Family.Generator) then Left clash (code .g) (code .r) (place + 1) 3)
-    (sym e ∙ c .clashes .ensures)
-    ∙ sym (fault-at clash (code .g) (code .r) place 3 (c .before .loop-test .taken) (count-few (start loop) .0)) ∙ loop .loop .inv .1
+    let s = start (at c) in
+    let place = at c .loop .place in
+    let line = s .generators-at .result in
+    ap (λ t. refuseIf t (Refusal.GeneratorsAnticommute (line + place) Family.Generator)
+    then Left clash (code s .g) (code s .r) (place + 1) line) (sym e ∙ c .clashes .ensures)
+    ∙ sym (fault-at clash (code s .g) (code s .r) place line (c .before .loop-test .taken) (count-few s .0))
+    ∙ at c .loop .inv .1
+
+-- ---- the needs
 
 loop-holds : tie.Need-loop-holds Inv-loop μ-loop
-unfolding generators generatorsAt
-loop-holds c = (search needs, refl)
+unfolding generators
+loop-holds c = (search needs, fault-start clash (code c .g) (code c .r) 0 (c .generators-at .result) refl)
 
 clashes-requires : tie.Need-clashes-requires Inv-loop μ-loop
 clashes-requires c κs = let few = count-few (start (c .before)) in omega (arith, few)
 
-add-t6 : tie.Need-add-t6 Inv-loop μ-loop
-add-t6 c = let few = count-few (start (at (c .before))) in record { fits = omega (arith, few) }
-
 returns : tie.Need-returns Inv-loop μ-loop
 unfolding refuseIf _then_
-returns c = here (c .before) (c .if1 .taken)
+returns c = by-line (start (at (c .before))) (here (c .before) (c .if1 .taken))
 
 loop-again : tie.Need-loop-again Inv-loop μ-loop
 unfolding refuseIf _then_
@@ -72,8 +92,9 @@ loop-again c = (search needs, here (c .before) (c .if1 .left))
 returns-2 : tie.Need-returns-2 Inv-loop μ-loop
 returns-2 c =
     let loop = c .before in
-    let code = start loop .args .code in
-    sym (fault-end clash (code .g) (code .r) (loop .loop .place) 3 (c .loop-test .left)) ∙ loop .loop .inv .1
+    let s = start loop in
+    by-line s (sym (fault-end clash (code s .g) (code s .r) (loop .loop .place) (s .generators-at .result)
+    (c .loop-test .left)) ∙ loop .loop .inv .1)
 
 pub clash-spec : {M : Type 1} → statement M
 clash-spec =
@@ -81,9 +102,11 @@ clash-spec =
     (tie.spec
     Inv-loop
     μ-loop
+    (λ c κs. search needs)
     loop-holds
     clashes-requires
-    add-t6
+    (λ c. let s = start (at (c .before)) in
+    record { fits = omega (arith, count-few s, line-small s, c .before .before .loop-test .taken) })
     returns
     (λ c. search needs)
     (λ c. search needs)

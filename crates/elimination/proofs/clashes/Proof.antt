@@ -15,7 +15,8 @@ use Rattle.elimination.proofs.clashes.Tie as tie
 
 abbrev Inv-loop : tie.InvT-loop
 Inv-loop place code p earlier₀ earlier =
-    (earlier ≤ place) × (anyOf (anticommutes p) (drop earlier (take place (code .g))) ≡ anyOf (anticommutes p) (take place (code .g)))
+    (earlier ≤ place)
+    × (anyOf (anticommutes p) (drop earlier (take place (code .g))) ≡ anyOf (anticommutes p) (take place (code .g)))
 
 abbrev μ-loop : tie.MeasureT-loop
 μ-loop place code p earlier₀ earlier = place - earlier
@@ -32,7 +33,9 @@ abbrev turn : tie.After-commutes Inv-loop μ-loop → tie.In-loop Inv-loop μ-lo
 turn c = c .before .before
 
 tested : (c : tie.After-commutes Inv-loop μ-loop)
-    → let loop = turn c .before in anticommutes (row loop) (getD (start loop .args .t1 .g) (loop .loop .earlier) identity) ≡ not (c .commutes .result)
+    → let loop = turn c .before in
+    anticommutes (row loop) (getD (start loop .args .t1 .g) (loop .loop .earlier) identity)
+    ≡ not (c .commutes .result)
 unfolding anticommutes
 tested c = sym (ap not (c .commutes .ensures))
 
@@ -57,7 +60,8 @@ returns c =
     let t = turn (c .before) in
     let loop = t .before in
     let a = start loop .args in
-    sym (any-here (anticommutes (row loop)) (a .t1 .g) (a .place) (loop .loop .earlier) (t .loop-test .taken) (inside t) (tested (c .before) ∙ c .if1 .taken))
+    sym (any-here (anticommutes (row loop)) (a .t1 .g) (a .place) (loop .loop .earlier) (t .loop-test .taken) (inside t)
+    (tested (c .before) ∙ c .if1 .taken))
     ∙ loop .loop .inv .1
 
 loop-again : tie.Need-loop-again Inv-loop μ-loop
@@ -66,7 +70,8 @@ loop-again c =
     let loop = t .before in
     let a = start loop .args in (
       search needs,
-      sym (any-later (anticommutes (row loop)) (a .t1 .g) (a .place) (loop .loop .earlier) (t .loop-test .taken) (inside t) (tested (c .before) ∙ c .if1 .left))
+      sym (any-later (anticommutes (row loop)) (a .t1 .g) (a .place) (loop .loop .earlier) (t .loop-test .taken)
+          (inside t) (tested (c .before) ∙ c .if1 .left))
           ∙ loop .loop .inv .1,
     )
 
@@ -74,7 +79,8 @@ returns-2 : tie.Need-returns-2 Inv-loop μ-loop
 returns-2 c =
     let loop = c .before in
     let a = start loop .args in
-    sym (any-none (anticommutes (row loop)) (a .t1 .g) (a .place) (loop .loop .earlier) (c .loop-test .left)) ∙ loop .loop .inv .1
+    sym (any-none (anticommutes (row loop)) (a .t1 .g) (a .place) (loop .loop .earlier) (c .loop-test .left))
+    ∙ loop .loop .inv .1
 
 pub clashes-spec : {M : Type 1} → statement M
 clashes-spec =

@@ -9,7 +9,8 @@ returns : tie.Need-returns
 returns c =
     let at = c .before .before in
     let a = at .before .before .args in
-    c .product .ensures ∙ one-cleared (a .n) (a .h) (a .p) (at .before .pivot .ensures) (at .column .ensures) (c .before .if1 .taken)
+    c .product .ensures
+    ∙ one-cleared (a .n) (a .h) (a .p) (at .before .pivot .ensures) (at .column .ensures) (c .before .if1 .taken)
 
 returns-2 : tie.Need-returns-2
 returns-2 c =
@@ -18,4 +19,5 @@ returns-2 c =
     nothing-cleared (a .n) (a .h) (a .p) (at .before .pivot .ensures) (at .column .ensures) (c .if1 .left)
 
 pub cleared-spec : {M : Type 1} → statement M
-cleared-spec = tie.close (tie.spec (λ c κs. search needs) (λ c κs. search needs) (λ c κs. search needs) returns returns-2)
+cleared-spec =
+    tie.close (tie.spec (λ c κs. search needs) (λ c κs. search needs) (λ c κs. search needs) returns returns-2)

@@ -10,10 +10,12 @@ returns : tie.Need-returns
 returns c = let a = c .before .before .args in c .bit .ensures ∙ sym (column-x (a .n) (a .p) (a .place) (omega arith))
 
 returns-2 : tie.Need-returns-2
-returns-2 c = let a = c .before .before .before .args in c .bit2 .ensures ∙ sym (column-z (a .n) (a .p) (a .place) (omega arith) (omega arith))
+returns-2 c = let a = c .before .before .before .args in c .bit2 .ensures
+    ∙ sym (column-z (a .n) (a .p) (a .place) (omega arith) (omega arith))
 
 returns-3 : tie.Need-returns-3
 returns-3 c = let a = c .before .before .args in sym (column-outside (a .n) (a .p) (a .place) (omega arith))
 
 pub column-spec : {M : Type 1} → statement M
-column-spec = tie.close (tie.spec (λ c κs. search needs) returns (λ c. search needs) (λ c κs. search needs) returns-2 returns-3)
+column-spec =
+    tie.close (tie.spec (λ c κs. search needs) returns (λ c. search needs) (λ c κs. search needs) returns-2 returns-3)

@@ -16,11 +16,13 @@ within : (c : tie.Else1) → withinLimits (c .before .before .args .code) ≡ tr
 within c = passed (c .before .within-limits .ensures) (c .if1 .left)
 
 -- 6 finds nothing.
-passes : (c : tie.After-enum-told) → none ≡ firstFault clash [] generatorsAt (generators (c .before .before .before .before .before .args .code))
+passes : (c : tie.After-enum-told) → let code = c .before .before .before .before .before .args .code in
+    none ≡ firstFault clash [] (generatorsAt code) (generators code)
 passes c = ap checkedRefusal (sym (c .enum-told .given .1)) ∙ c .before .before .clash .ensures
 
 returns : tie.Need-returns
-returns c = c .refused .ensures ∙ outside-limits _ (failed (c .before .before .within-limits .ensures) (c .before .if1 .taken))
+returns c = c .refused .ensures
+    ∙ outside-limits _ (failed (c .before .before .within-limits .ensures) (c .before .if1 .taken))
 
 clash-requires : tie.Need-clash-requires
 clash-requires c κs = within c

@@ -11,12 +11,14 @@ use Rattle.elimination.proofs.first_one.Statement.{statement}
 use Rattle.elimination.proofs.first_one.Tie as tie
 
 returns : tie.Need-returns
-returns c = let a = c .before .before .args in sym (firstOne-found (a .n) 32 (a .m) (omega (arith, ltb-true)) (omega arith))
+returns c = let a = c .before .before .args in
+    sym (firstOne-found (a .n) 32 (a .m) (omega (arith, ltb-true)) (omega arith))
 
 returns-2 : tie.Need-returns-2
 returns-2 c =
     let a = c .before .args in
-    let few : min (a .n) 32 ≤ trailingZeros 32 (a .m) = ⊎-elim (λ t. omega (arith, ltb-false, t .1)) (λ e. omega (arith, e)) (c .if1 .came) in
+    let few : min (a .n) 32 ≤ trailingZeros 32 (a .m) =
+    ⊎-elim (λ t. omega (arith, ltb-false, t .1)) (λ e. omega (arith, e)) (c .if1 .came) in
     sym (firstOne-missed (a .n) 32 (a .m) (search needs) few)
 
 pub first-one-spec : {M : Type 1} → statement M

@@ -16,13 +16,15 @@ told c is =
     let passed = c .before .before .before in
     let checks = passed .before .before in
     let a = checks .before .args in
-    member-told (a .code) (a .p) (checks .eliminate .ensures) (passed .enum-told .given .1) (c .before .before .signed .ensures) (c .before .reduce .ensures)
+    member-told (a .code) (a .p) (checks .eliminate .ensures) (passed .enum-told .given .1)
+    (c .before .before .signed .ensures) (c .before .reduce .ensures)
     (c .kind-of .ensures) is
 
 returns : tie.Need-returns
 returns c =
     let checks = c .before .before .before in
-    member-refused (checks .before .args .code) (checks .before .args .p) (checks .eliminate .ensures) (c .before .answer .given .1)
+    member-refused (checks .before .args .code) (checks .before .args .p) (checks .eliminate .ensures)
+    (c .before .answer .given .1)
 
 returns-2 : tie.Need-returns-2
 returns-2 c = told (c .before .before) (c .enum-told2 .given .1)

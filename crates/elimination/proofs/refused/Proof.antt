@@ -8,7 +8,8 @@ use Rattle.elimination.proofs.refused.Tie as tie
 
 returns : tie.Need-returns
 unfolding eliminated
-returns c = ap (λ rows. record { answer = Checked.Refused (c .before .args .refusal); reduced = rows }) (c .empty .ensures)
+returns c =
+    ap (λ rows. record { answer = Checked.Refused (c .before .args .refusal); reduced = rows }) (c .empty .ensures)
 
 pub refused-spec : {M : Type 1} → statement M
 refused-spec = tie.close (tie.spec (λ c κs. search needs) returns)

@@ -65,7 +65,8 @@ returns c =
     let at = c .before .before in
     let a = start at .args in (
       sym (length-claimText (a .n) (a .row)),
-      letters-line front (buffer at) (part at) (a .n) (a .n + 2) (a .row) (omega (arith, room (start at))) (omega arith) (at .letters .ensures)
+      letters-line front (buffer at) (part at) (a .n) (a .n + 2) (a .row) (omega (arith, room (start at))) (omega arith)
+          (at .letters .ensures)
           ∙ ap (λ text. laid text (buffer at)) (sym (claim-text (a .n) (a .row))),
     )
 

@@ -25,12 +25,14 @@ start c = c .before .before
 size : (c : tie.At-loop Inv-loop μ-loop) → length (c .loop .out) ≡ length (start c .args .out .now)
 size c =
     let a = start c .args in
-    ap length (c .loop .inv .1) ∙ length-letters-laid (a .n) (c .loop .place) (a .row) (a .out .now) (c .loop .inv .0) (start c .pre .1)
+    ap length (c .loop .inv .1)
+    ∙ length-letters-laid (a .n) (c .loop .place) (a .row) (a .out .now) (c .loop .inv .0) (start c .pre .1)
 
 abbrev turn : tie.After-byte Inv-loop μ-loop → tie.At-loop Inv-loop μ-loop
 turn c = c .before .before .before
 
-byte-is : (c : tie.After-byte Inv-loop μ-loop) → c .byte .result ≡ letterByte (letterOn (turn c .loop .place) (start (turn c) .args .row))
+byte-is : (c : tie.After-byte Inv-loop μ-loop)
+    → c .byte .result ≡ letterByte (letterOn (turn c .loop .place) (start (turn c) .args .row))
 byte-is c = c .byte .ensures ∙ ap letterByte (c .before .letter-on .ensures)
 
 -- ---- the needs
@@ -50,7 +52,8 @@ loop-again c =
     let l = turn c .loop in (
       search needs,
       ap (λ bytes. set bytes (l .place) (c .byte .result)) (l .inv .1)
-          ∙ ap (λ byte. set (laid (take (l .place) (letterText (a .n) (a .row))) (a .out .now)) (l .place) byte) (byte-is c)
+          ∙ ap (λ byte. set (laid (take (l .place) (letterText (a .n) (a .row))) (a .out .now)) (l .place) byte)
+          (byte-is c)
           ∙ letter-laid (a .n) (l .place) (a .row) (a .out .now) (search needs) (search needs),
     )
 

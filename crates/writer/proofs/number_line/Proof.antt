@@ -1,90 +1,108 @@
--- A number below 10 has one digit, and its line four bytes; another has two, and its line five.
-use mathlib.Core.List.{List, [], _∷_}
-use mathlib.Core.Path.{_≡_, ap, sym, _∙_}
-use Prim.Native.Nat.{ℕ, _+_, _/_, _%_, _≤_}
+-- The slice holds the key, then the digits behind it, then the line feed.
+use mathlib.Core.List.{List, [], _∷_, _++_}
+use mathlib.Core.Path.{refl, ap, _∙_}
+use Prim.Native.Nat.{ℕ, _+_, _<_, _≤_}
 use native.Mathlib.Omega.{arith}
-use lib.ListN.{length, length-set}
-use Rattle.sheet.specs.Text.{laid}
-use Rattle.writer.specs.Lines.{numberText}
-use Rattle.writer.proofs.Laid.{sets-laid}
-use Rattle.writer.proofs.Lines.{number-one, number-two, number-room}
+use lib.ListN.{length, set, length-append}
+use Rattle.sheet.specs.Text.{decimal, laid}
+use Rattle.writer.proofs.Laid.{back, Holds, end-within, room-behind, holds-more, holds-byte}
+use Rattle.writer.proofs.Numbers.{number-text, length-numberText}
 use borrow.Author.Needs.{needs}
 use Rattle.writer.proofs.number_line.Statement.{statement}
 use Rattle.writer.proofs.number_line.Tie as tie
 
--- ---- one digit
+module _ (c : tie.Start) where
+  abbrev key : List ℕ
+  key = c .args .key .now
 
-abbrev one : tie.Then1 → List ℕ
-one c = c .before .args .key ∷ 61 ∷ (48 + c .before .args .m) ∷ 10 ∷ []
+  abbrev digits : List ℕ
+  digits = decimal (c .args .m)
 
-one-is : (c : tie.Then1) → numberText (c .before .args .key) (c .before .args .m) ≡ one c
-one-is c = number-one (c .before .args .key) (c .before .args .m) (c .if1 .taken)
+  abbrev buffer : List ℕ
+  buffer = c .args .out .now
 
-one-room : (c : tie.Then1) → 4 ≤ length (c .before .args .out .now)
-one-room c = omega (arith, ap length (one-is c))
+  room : length key + length digits + 1 ≤ length buffer
+  room = omega (arith, length-numberText key (c .args .m), c .pre)
 
--- ---- two digits
+-- ---- behind the key
 
-abbrev two : tie.Else1 → List ℕ
-two c = c .before .args .key ∷ 61 ∷ (48 + c .before .args .m / 10) ∷ (48 + c .before .args .m % 10) ∷ 10 ∷ []
+abbrev start : tie.After-put → tie.Start
+start c = c .before .before .before .before
 
-two-is : (c : tie.Else1) → numberText (c .before .args .key) (c .before .args .m) ≡ two c
-two-is c = number-two (c .before .args .key) (c .before .args .m) (c .if1 .left) (search needs)
+keyed : (c : tie.After-put) → Holds (key (start c)) (buffer (start c)) (c .put .last .0) (length (key (start c)))
+keyed c = record { content = c .put .ensures; count = refl; size = c .put .kept .0 }
 
-two-room : (c : tie.Else1) → 5 ≤ length (c .before .args .out .now)
-two-room c = omega (arith, ap length (two-is c))
+-- ---- behind the digits
+
+abbrev fronted : tie.After-digits → tie.After-put
+fronted c = c .before .before .before .before
+
+abbrev end : tie.After-digits → ℕ
+end c = length (key (start (fronted c))) + c .digits .result
+
+abbrev out : tie.After-digits → List ℕ
+out c = back (length (key (start (fronted c)))) (fronted c .put .last .0) (c .digits .last .0)
+
+module _ (c : tie.After-digits) where
+  abbrev s : tie.Start
+  s = start (fronted c)
+
+  numbered : Holds (key s ++ digits s) (buffer s) (out c) (end c)
+  numbered =
+      holds-more (keyed (fronted c)) (digits s) (c .digits .ensures .0) (c .digits .ensures .1) (c .digits .kept .0)
+
+  inside : end c < length (buffer s)
+  inside = omega (arith, room s, c .digits .ensures .0)
+
+  ended : Holds ((key s ++ digits s) ++ 10 ∷ []) (buffer s) (set (out c) (end c) 10) (end c + 1)
+  ended = holds-byte numbered 10 (omega (arith, inside, numbered .size))
 
 -- ---- the needs
 
+put-requires : tie.Need-put-requires
+put-requires c κs = omega (arith, room (c .before .before .before))
+
+sub-digits : tie.Need-sub-digits
+sub-digits c = let p = c .before .before in end-within (keyed p) (omega (arith, room (start p)))
+
+part-digits-start : tie.Need-part-digits-start
+part-digits-start c = sub-digits c
+
+digits-requires : tie.Need-digits-requires
+digits-requires c κs =
+    let p = c .before .before .before in
+    let s = start p in
+    room-behind (keyed p) (digits s) (omega (arith, room s, length-append (key s) (digits s)))
+
+add-end : tie.Need-add-end
+add-end c = let d = c .before .before in record { fits = omega (arith, inside d, s d .good .0) }
+
 slice-write-out : tie.Need-slice-write-out
-slice-write-out c = omega (arith, number-room (c .args .key) (c .args .m))
+slice-write-out c = let d = c .before .before in omega (arith, inside d, numbered d .size)
 
-slice-write-out-2 : tie.Need-slice-write-out-2
-slice-write-out-2 c = simp length-set (omega (arith, number-room (c .args .key) (c .args .m)))
+add-result : tie.Need-add-result
+add-result c = let d = c .before .before in record { fits = omega (arith, inside d, s d .good .0) }
 
-slice-write-out-3 : tie.Need-slice-write-out-3
-slice-write-out-3 c = simp length-set (omega (arith, one-room c))
-
-slice-write-out-4 : tie.Need-slice-write-out-4
-slice-write-out-4 c = simp length-set (omega (arith, one-room c))
+same-length : tie.Need-same-length
+same-length c = ended (c .before .before) .size
 
 returns : tie.Need-returns
 returns c =
-    let out = c .before .args .out .now in
-    (sym (ap length (one-is c)), sets-laid (one c) out (one-room c) ∙ ap (λ text. laid text out) (sym (one-is c)))
-
-slice-write-out-5 : tie.Need-slice-write-out-5
-slice-write-out-5 c = simp length-set (omega (arith, two-room c))
-
-slice-write-out-6 : tie.Need-slice-write-out-6
-slice-write-out-6 c = simp length-set (omega (arith, two-room c))
-
-slice-write-out-7 : tie.Need-slice-write-out-7
-slice-write-out-7 c = simp length-set (omega (arith, two-room c))
-
-returns-2 : tie.Need-returns-2
-returns-2 c =
-    let out = c .before .args .out .now in
-    (sym (ap length (two-is c)), sets-laid (two c) out (two-room c) ∙ ap (λ text. laid text out) (sym (two-is c)))
+    let d = c .before .before in
+    let text = number-text (key (s d)) (s d .args .m) in
+    (ended d .count ∙ ap length text, ended d .content ∙ ap (λ t. laid t (buffer (s d))) text)
 
 pub number-line-spec : {M : Type 1} → statement M
 number-line-spec =
     tie.close
     (tie.spec
+    put-requires
+    sub-digits
+    part-digits-start
+    (λ c. search needs)
+    digits-requires
+    add-end
     slice-write-out
-    slice-write-out-2
-    (λ c. search needs)
-    (λ c. search needs)
-    slice-write-out-3
-    slice-write-out-4
-    (λ c. search needs)
-    returns
-    (λ c. search needs)
-    (λ c. search needs)
-    slice-write-out-5
-    (λ c. search needs)
-    (λ c. search needs)
-    slice-write-out-6
-    slice-write-out-7
-    (λ c. search needs)
-    returns-2)
+    add-result
+    same-length
+    returns)

@@ -36,7 +36,8 @@ text c = rowLineText (start c .args .key) (start c .args .n) (start c .args .row
 
 text-is : (c : tie.After-byte) → front c ++ letterBytes c ++ 10 ∷ [] ≡ text c
 text-is c =
-    ap (λ sign. start c .args .key ∷ 61 ∷ sign ∷ letterBytes c ++ 10 ∷ []) (c .byte .ensures ∙ ap signByte (c .before .sign .ensures))
+    ap (λ sign. start c .args .key ∷ 61 ∷ sign ∷ letterBytes c ++ 10 ∷ [])
+    (c .byte .ensures ∙ ap signByte (c .before .sign .ensures))
     ∙ sym (row-text (start c .args .key) (start c .args .n) (start c .args .row))
 
 -- ---- behind the letters
@@ -47,7 +48,8 @@ fronted c = c .before .before
 abbrev part : tie.After-letters → List ℕ
 part c = c .letters .last .0
 
-length-lettered : (c : tie.After-letters) → length (back 3 (sets (buffer (fronted c)) 0 (front (fronted c))) (part c)) ≡ length (buffer (fronted c))
+length-lettered : (c : tie.After-letters)
+    → length (back 3 (sets (buffer (fronted c)) 0 (front (fronted c))) (part c)) ≡ length (buffer (fronted c))
 length-lettered c = length-behind (front (fronted c)) (buffer (fronted c)) (part c) (c .letters .kept .0)
 
 -- ---- the needs
@@ -88,7 +90,8 @@ returns c =
     let at = fronted letters in
     let a = start at .args in (
       sym (length-rowLineText (a .key) (a .n) (a .row)),
-      letters-line (front at) (buffer at) (part letters) (a .n) (a .n + 3) (a .row) (omega (arith, room (start at))) (omega arith)
+      letters-line (front at) (buffer at) (part letters) (a .n) (a .n + 3) (a .row) (omega (arith, room (start at)))
+          (omega arith)
           (letters .letters .ensures)
           ∙ ap (λ text. laid text (buffer at)) (text-is at),
     )

@@ -1,4 +1,5 @@
--- The slice holds the lines of the rows that were passed, and `end` is their length; each turn lays the next line behind them.
+-- The slice holds the lines of the rows that were passed, and `end` is their length; each turn lays the next line
+-- behind them.
 use mathlib.Core.List.{List, _++_}
 use mathlib.Core.Path.{_≡_, ap, _∙_}
 use Prim.Native.Nat.{ℕ, _+_, _-_, _≤_}
@@ -15,7 +16,8 @@ use Rattle.writer.proofs.row_lines.Statement.{statement}
 use Rattle.writer.proofs.row_lines.Tie as tie
 
 abbrev Inv-loop : tie.InvT-loop
-Inv-loop out₀ code family count n end₀ place₀ out end place = (place ≤ count) × Holds (familyText family code place) out₀ out end
+Inv-loop out₀ code family count n end₀ place₀ out end place =
+    (place ≤ count) × Holds (familyText family code place) out₀ out end
 
 abbrev μ-loop : tie.MeasureT-loop
 μ-loop out₀ code family count n end₀ place₀ out end place = count - place
@@ -39,7 +41,12 @@ room : (c : tie.In-loop Inv-loop μ-loop) → end c + (start c .args .code .n + 
 room c =
     let a = start c .args in
     let pre = start c .pre in
-    omega (arith, c .before .loop .inv .1 .count, pre, lines-room (a .family) (a .code) (place c) (a .count) (c .loop-test .taken) (pre .1 .0))
+    omega (
+      arith,
+      c .before .loop .inv .1 .count,
+      pre,
+      lines-room (a .family) (a .code) (place c) (a .count) (c .loop-test .taken) (pre .1 .0),
+    )
 
 -- ---- behind the line
 
@@ -61,17 +68,21 @@ text-is : (c : tie.After-row-line Inv-loop μ-loop)
 text-is c =
     let a = start (turn c) .args in
     let i = place (turn c) in
-    ap (λ byte. familyText (a .family) (a .code) i ++ rowLineText byte (a .code .n) (c .before .row .result)) (c .before .before .key .ensures)
-    ∙ ap (λ row. familyText (a .family) (a .code) i ++ rowLineText (keyByte (a .family)) (a .code .n) row) (c .before .row .ensures)
+    ap (λ byte. familyText (a .family) (a .code) i ++ rowLineText byte (a .code .n) (c .before .row .result))
+    (c .before .before .key .ensures)
+    ∙ ap (λ row. familyText (a .family) (a .code) i ++ rowLineText (keyByte (a .family)) (a .code .n) row)
+    (c .before .row .ensures)
     ∙ lines-more (a .family) (a .code) i (omega (arith, start (turn c) .pre .1))
 
 held : (c : tie.After-row-line Inv-loop μ-loop)
     → let a = start (turn c) .args in
-    Holds (familyText (a .family) (a .code) (place (turn c) + 1)) (a .out .now) (back (end (turn c)) (out (turn c)) (c .row-line .last .0))
+    Holds (familyText (a .family) (a .code) (place (turn c) + 1)) (a .out .now)
+    (back (end (turn c)) (out (turn c)) (c .row-line .last .0))
     (end (turn c) + c .row-line .result)
 held c =
     let call = c .row-line in
-    holds-as (holds-more (turn c .before .loop .inv .1) _ (call .ensures .0) (call .ensures .1) (call .kept .0)) (text-is c)
+    holds-as (holds-more (turn c .before .loop .inv .1) _ (call .ensures .0) (call .ensures .1) (call .kept .0))
+    (text-is c)
 
 -- ---- the needs
 

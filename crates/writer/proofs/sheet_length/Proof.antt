@@ -1,72 +1,71 @@
--- The lengths of the lines, the n line's by its digits; no sum is above 1352.
-use mathlib.Core.Path.{sym}
-use Prim.Native.Nat.{_≤_}
+-- The lengths of the lines; no sum is above that of the longest sheet.
+use mathlib.Core.Path.{_≡_, ap, ap₂, sym, _∙_}
+use Prim.Native.Nat.{ℕ, _+_, _*_, _≤_}
 use native.Mathlib.Omega.{arith}
+use lib.ListN.{length}
+use Rattle.sheet.specs.declared.Code.{Code}
+use Rattle.sheet.specs.Record.{mostQubits, longestSheet, pairCount}
 use Rattle.sheet.specs.Statements.{Sized}
-use Rattle.sheet.proofs.Limits.{Limits, limits}
+use Rattle.sheet.specs.Writer.{sheetText}
 use Rattle.sheet.proofs.ArrayLengths.{sized-of}
-use Rattle.writer.proofs.Sheet.{behindN, behindN-le, sheet-one, sheet-two}
+use Rattle.sheet.proofs.Lengths.{sheetText-le}
+use Rattle.sheet.proofs.Limits.{limits}
+use Rattle.writer.proofs.Sheet.{sheet-length}
+use borrow.Author.Needs.{needs}
 use Rattle.writer.proofs.sheet_length.Statement.{statement}
 use Rattle.writer.proofs.sheet_length.Tie as tie
 
 sized : (c : tie.Start) → Sized (c .args .code)
 sized c = sized-of (c .args .code) (c .good .0)
 
-within : (c : tie.Start) → Limits (c .args .code)
-within c = limits (c .args .code) (c .pre)
+module _ (c : tie.After-digit-count2) where
+  abbrev start : tie.Start
+  start = c .before .before .before
 
-small : (c : tie.Start) → behindN (c .args .code) ≤ 1352
-small c = behindN-le (c .args .code) (sized c) (c .pre)
+  abbrev code : Code
+  code = start .args .code
 
-sub-rows : tie.Need-sub-rows
-sub-rows c = omega (arith, within (c .before))
+  abbrev sum : ℕ
+  sum = c .before .digit-count .result + c .digit-count2 .result + 6
+      + (code .r + 2 * c .before .before .pair-count .result) * (code .n + 4) + (code .n + 3)
+
+  sum-is : sum ≡ length (sheetText code)
+  sum-is =
+      ap (λ (k : ℕ). c .before .digit-count .result + c .digit-count2 .result + 6 + (code .r + 2 * k) * (code .n + 4)
+      + (code .n + 3)) (c .before .before .pair-count .ensures)
+      ∙ ap₂ (λ n d. n + d + 6 + (code .r + 2 * pairCount (code .n) (code .r)) * (code .n + 4) + (code .n + 3))
+      (c .before .digit-count .ensures) (c .digit-count2 .ensures) ∙ sym (sheet-length code (sized start) (start .pre))
+
+  sum-small : sum ≤ longestSheet
+  sum-small = omega (arith, sum-is, sheetText-le code (sized start) (start .pre))
+
+few : (c : tie.After-pair-count) → c .before .args .code .r + 2 * c .pair-count .result ≤ 3 * mostQubits
+unfolding pairCount
+few c = omega (arith, limits (c .before .args .code) (c .before .pre), c .pair-count .ensures)
 
 mul-rows : tie.Need-mul-rows
-mul-rows c = omega (arith, within (c .before))
+mul-rows c = record { fits = omega (arith, few c) }
 
 add-rows : tie.Need-add-rows
-add-rows c = omega (arith, within (c .before .before))
-
-add-rest : tie.Need-add-rest
-add-rest c = omega (arith, within (c .before .before))
-
-mul-rest : tie.Need-mul-rest
-mul-rest c = omega (arith, small (c .before .before))
-
-add-rest-2 : tie.Need-add-rest-2
-add-rest-2 c = omega (arith, small (c .before .before))
-
-add-rest-3 : tie.Need-add-rest-3
-add-rest-3 c = omega (arith, within (c .before .before))
-
-add-rest-4 : tie.Need-add-rest-4
-add-rest-4 c = omega (arith, small (c .before .before))
-
-add-result : tie.Need-add-result
-add-result c = omega (arith, small (c .before .before .before))
+add-rows c = record { fits = omega (arith, few c) }
 
 returns : tie.Need-returns
-returns c = let start = c .before .before .before in sym (sheet-one (start .args .code) (sized start) (start .pre) (c .if1 .taken))
-
-add-result-2 : tie.Need-add-result-2
-add-result-2 c = omega (arith, small (c .before .before .before))
-
-returns-2 : tie.Need-returns-2
-returns-2 c = let start = c .before .before .before in sym (sheet-two (start .args .code) (sized start) (start .pre) (c .if1 .left))
+returns c = sum-is c
 
 pub sheet-length-spec : {M : Type 1} → statement M
 sheet-length-spec =
     tie.close
     (tie.spec
-    sub-rows
+    (λ c κs. search needs)
     mul-rows
     add-rows
-    add-rest
-    mul-rest
-    add-rest-2
-    add-rest-3
-    add-rest-4
-    add-result
-    returns
-    add-result-2
-    returns-2)
+    (λ c κs. search needs)
+    (λ c κs. search needs)
+    (λ c. record { fits = omega (arith, sum-small c) })
+    (λ c. record { fits = omega (arith, sum-small c) })
+    (λ c. record { fits = omega (arith, sum-small c) })
+    (λ c. record { fits = omega (arith, sum-small c) })
+    (λ c. record { fits = omega (arith, sum-small c) })
+    (λ c. record { fits = omega (arith, sum-small c) })
+    (λ c. record { fits = omega (arith, sum-small c) })
+    returns)

@@ -6,9 +6,11 @@ use Prim.Native.Nat.{_+_, _-_, _≤_}
 use native.Mathlib.Omega.{arith}
 use borrow.Author.Tests.{lt-ltb, le-ltb}
 use lib.Dec.{ltb}
+use Rattle.sheet.specs.Record.{generatorRoom}
 use Rattle.stabilizer.specs.Canonical.{pivot}
 use Rattle.elimination.specs.Step.{belowPivot}
-use Rattle.elimination.proofs.GatheredRows.{Grown, grown-none, grown-as, grown-more, grown-all, below-stops, below-goes-on, below-nothing}
+use Rattle.elimination.proofs.GatheredRows.{Grown, grown-none, grown-as, grown-more, grown-all, below-stops}
+use Rattle.elimination.proofs.GatheredRows.{below-goes-on, below-nothing}
 use Rattle.elimination.proofs.ArrayLength.{room-of}
 use Rattle.elimination.proofs.Rows.{count-room, clearedFrom, cleared-at, cleared-end}
 use borrow.Author.Needs.{needs}
@@ -17,7 +19,8 @@ use Rattle.elimination.proofs.ReducedRows.below.Tie as tie
 
 abbrev Inv-loop : tie.InvT-loop
 Inv-loop q self n count first passed₀ place₀ passed place =
-    (place ≤ count) × Grown n passed (belowPivot n q (clearedFrom self place n q)) (belowPivot n q (clearedFrom self 0 n q)) place
+    (place ≤ count)
+    × Grown n passed (belowPivot n q (clearedFrom self place n q)) (belowPivot n q (clearedFrom self 0 n q)) place
 
 abbrev μ-loop : tie.MeasureT-loop
 μ-loop q self n count first passed₀ place₀ passed place = count - place
@@ -25,7 +28,7 @@ abbrev μ-loop : tie.MeasureT-loop
 abbrev start : tie.At-loop Inv-loop μ-loop → tie.Start Inv-loop μ-loop
 start c = c .before .before .before
 
-few : (c : tie.At-loop Inv-loop μ-loop) → start c .args .t1 .count ≤ 32
+few : (c : tie.At-loop Inv-loop μ-loop) → start c .args .t1 .count ≤ generatorRoom
 few c = let hs = start c .args .t1 in omega (arith, count-room hs (start c .pre), room-of hs (start c .good .0))
 
 -- ---- the row here
@@ -34,17 +37,20 @@ abbrev at : tie.After-pivot2 Inv-loop μ-loop → tie.At-loop Inv-loop μ-loop
 at c = c .before .before .before .before
 
 here : (c : tie.After-pivot2 Inv-loop μ-loop) → let a = start (at c) .args in
-    clearedFrom (a .t1) (at c .loop .place) (a .t1 .n) (a .q) ≡ c .before .cleared .result ∷ clearedFrom (a .t1) (at c .loop .place + 1) (a .t1 .n) (a .q)
+    clearedFrom (a .t1) (at c .loop .place) (a .t1 .n) (a .q)
+    ≡ c .before .cleared .result ∷ clearedFrom (a .t1) (at c .loop .place + 1) (a .t1 .n) (a .q)
 here c =
     let a = start (at c) .args in
     let turn = c .before .before .before in
     let place = at c .loop .place in
-    cleared-at (a .t1) place (a .t1 .n) (a .q) (turn .loop-test .taken) (omega (arith, few (at c), room-of (a .t1) (start (at c) .good .0)))
+    cleared-at (a .t1) place (a .t1 .n) (a .q) (turn .loop-test .taken)
+    (omega (arith, few (at c), room-of (a .t1) (start (at c) .good .0)))
     ∙ ap (λ h. h ∷ clearedFrom (a .t1) (place + 1) (a .t1 .n) (a .q)) (sym (c .before .cleared .ensures))
 
 -- Whether its first one comes behind q's.
 tested : {t : Bool} (c : tie.After-pivot2 Inv-loop μ-loop) → let a = start (at c) .args in
-    ltb (at c .before .before .pivot .result) (c .pivot2 .result) ≡ t → ltb (pivot (a .t1 .n) (a .q)) (pivot (a .t1 .n) (c .before .cleared .result)) ≡ t
+    ltb (at c .before .before .pivot .result) (c .pivot2 .result) ≡ t
+    → ltb (pivot (a .t1 .n) (a .q)) (pivot (a .t1 .n) (c .before .cleared .result)) ≡ t
 tested c e = ap₂ ltb (sym (at c .before .before .pivot .ensures)) (sym (c .pivot2 .ensures)) ∙ e
 
 -- ---- the needs
@@ -63,7 +69,8 @@ returns c =
     let p = c .before in
     let a = start (at p) .args in
     grown-all (grown-as (at p .loop .inv .1)
-    (ap (belowPivot (a .t1 .n) (a .q)) (here p) ∙ below-stops (a .t1 .n) (a .q) (p .before .cleared .result) _ (tested p (lt-ltb _ _ (c .if1 .taken)))))
+    (ap (belowPivot (a .t1 .n) (a .q)) (here p)
+    ∙ below-stops (a .t1 .n) (a .q) (p .before .cleared .result) _ (tested p (lt-ltb _ _ (c .if1 .taken)))))
 
 mul-h : tie.Need-mul-h Inv-loop μ-loop
 mul-h c = let short = few (at (c .before)) in search needs
@@ -78,7 +85,8 @@ loop-again c =
       search needs,
       grown-more (p .before .cleared .result)
           (grown-as (at p .loop .inv .1)
-          (ap (belowPivot (a .t1 .n) (a .q)) (here p) ∙ below-goes-on (a .t1 .n) (a .q) (p .before .cleared .result) _ (tested p (le-ltb _ _ (c .if1 .left)))))
+          (ap (belowPivot (a .t1 .n) (a .q)) (here p)
+          ∙ below-goes-on (a .t1 .n) (a .q) (p .before .cleared .result) _ (tested p (le-ltb _ _ (c .if1 .left)))))
           (omega (arith, few (at p), p .before .before .before .loop-test .taken)),
     )
 
@@ -87,7 +95,8 @@ returns-2 c =
     let loop = c .before in
     let a = start loop .args in
     grown-all (grown-as (loop .loop .inv .1)
-    (ap (belowPivot (a .t1 .n) (a .q)) (cleared-end (a .t1) (loop .loop .place) (a .t1 .n) (a .q) (c .loop-test .left)) ∙ below-nothing (a .t1 .n) (a .q)))
+    (ap (belowPivot (a .t1 .n) (a .q)) (cleared-end (a .t1) (loop .loop .place) (a .t1 .n) (a .q) (c .loop-test .left))
+    ∙ below-nothing (a .t1 .n) (a .q)))
 
 pub below-spec : {M : Type 1} → statement M
 below-spec =

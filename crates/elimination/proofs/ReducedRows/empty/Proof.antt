@@ -1,7 +1,7 @@
 -- An array of +I has no row yet.
 use mathlib.Core.Path.{ap}
 use lib.ListN.{replicate}
-use Rattle.sheet.specs.Record.{filled}
+use Rattle.sheet.specs.Record.{generatorRoom, filled}
 use Rattle.elimination.specs.Answers.{reducedOf}
 use Rattle.elimination.proofs.Rows.{value}
 use borrow.Author.Needs.{needs}
@@ -10,7 +10,7 @@ use Rattle.elimination.proofs.ReducedRows.empty.Tie as tie
 
 returns : tie.Need-returns
 unfolding reducedOf filled
-returns c = ap (λ one. value (c .before .args .n) 0 (replicate 32 one)) (c .identity .ensures)
+returns c = ap (λ one. value (c .before .args .n) 0 (replicate generatorRoom one)) (c .identity .ensures)
 
 pub empty-spec : {M : Type 1} → statement M
 empty-spec = tie.close (tie.spec (λ c κs. search needs) returns)

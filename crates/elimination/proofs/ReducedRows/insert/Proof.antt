@@ -5,10 +5,12 @@ use Prim.Native.Nat.{ℕ, _+_, _-_, _<_, _≤_}
 use native.Mathlib.Omega.{arith}
 use lib.ListN.{length, drop, length-map}
 use Rattle.pauli.specs.declared.Pauli.{Pauli}
+use Rattle.sheet.specs.Record.{generatorRoom}
 use Rattle.stabilizer.specs.Canonical.{cleared, insertByPivot}
 use Rattle.elimination.specs.Answers.{rowsIn, reducedOf}
 use Rattle.elimination.specs.Step.{belowPivot}
-use Rattle.elimination.proofs.GatheredRows.{Grown, grown-as, grown-more, grown-all, inserted-behind, length-below}
+use Rattle.elimination.proofs.GatheredRows.{Grown, grown-as, grown-more, grown-all, inserted-behind}
+use Rattle.elimination.proofs.GatheredRows.{length-below}
 use Rattle.elimination.proofs.Rows.{count-is, count-room, clearedFrom, cleared-at, cleared-end}
 use borrow.Author.Needs.{needs}
 use Rattle.elimination.proofs.ReducedRows.insert.Statement.{statement}
@@ -16,7 +18,8 @@ use Rattle.elimination.proofs.ReducedRows.insert.Tie as tie
 
 abbrev Inv-loop : tie.InvT-loop
 Inv-loop q self n count longer₀ place₀ longer place =
-    (place ≤ count) × Grown n longer (clearedFrom self place n q) (insertByPivot n q (clearedFrom self 0 n q)) (place + 1)
+    (place ≤ count)
+    × Grown n longer (clearedFrom self place n q) (insertByPivot n q (clearedFrom self 0 n q)) (place + 1)
 
 abbrev μ-loop : tie.MeasureT-loop
 μ-loop q self n count longer₀ place₀ longer place = count - place
@@ -35,7 +38,8 @@ below-count c = ap (λ r. r .count) (c .below .ensures)
 
 below-q : (c : tie.After-below Inv-loop μ-loop) → let a = c .before .args in
     let size = c .below .result .count in
-    Grown (a .t1 .n) (c .below .result) (a .q ∷ clearedFrom (a .t1) size (a .t1 .n) (a .q)) (insertByPivot (a .t1 .n) (a .q) (columnCleared (c .before))) size
+    Grown (a .t1 .n) (c .below .result) (a .q ∷ clearedFrom (a .t1) size (a .t1 .n) (a .q))
+    (insertByPivot (a .t1 .n) (a .q) (columnCleared (c .before))) size
 below-q c =
     let a = c .before .args in
     let all = columnCleared (c .before) in
@@ -43,7 +47,8 @@ below-q c =
       rows = passed (c .before);
       held = c .below .ensures;
       joined =
-          ap (λ (size : ℕ). passed (c .before) ++ a .q ∷ drop size all) (below-count c) ∙ inserted-behind (a .t1 .n) (a .q) all;
+          ap (λ (size : ℕ). passed (c .before) ++ a .q ∷ drop size all) (below-count c)
+          ∙ inserted-behind (a .t1 .n) (a .q) all;
       sized = sym (below-count c);
     }
 
@@ -65,12 +70,14 @@ start c = c .before .before
 
 here : (c : tie.After-cleared Inv-loop μ-loop) → let loop = c .before .before .before in
     let a = start loop .args in
-    clearedFrom (a .t1) (loop .loop .place) (a .t1 .n) (a .q) ≡ c .cleared .result ∷ clearedFrom (a .t1) (loop .loop .place + 1) (a .t1 .n) (a .q)
+    clearedFrom (a .t1) (loop .loop .place) (a .t1 .n) (a .q)
+    ≡ c .cleared .result ∷ clearedFrom (a .t1) (loop .loop .place + 1) (a .t1 .n) (a .q)
 here c =
     let turn = c .before .before in
     let loop = turn .before in
     let a = start loop .args in
-    cleared-at (a .t1) (loop .loop .place) (a .t1 .n) (a .q) (turn .loop-test .taken) (omega (arith, count-room (a .t1) (start loop .pre .0)))
+    cleared-at (a .t1) (loop .loop .place) (a .t1 .n) (a .q) (turn .loop-test .taken)
+    (omega (arith, count-room (a .t1) (start loop .pre .0)))
     ∙ ap (λ h. h ∷ clearedFrom (a .t1) (loop .loop .place + 1) (a .t1 .n) (a .q)) (sym (c .cleared .ensures))
 
 -- ---- the needs
@@ -79,16 +86,19 @@ below-requires : tie.Need-below-requires Inv-loop μ-loop
 below-requires c κs = c .pre .0
 
 mul-q : tie.Need-mul-q Inv-loop μ-loop
-mul-q c = let few : c .below .result .count < 32 = omega (arith, count-few c, c .before .pre .1) in search needs
+mul-q c = let few : c .below .result .count < generatorRoom = omega (arith, count-few c, c .before .pre .1) in
+    search needs
 
 element-set-from-q : tie.Need-element-set-from-q Inv-loop μ-loop
 element-set-from-q c = omega (arith, count-few c, c .before .pre .1)
 
 add-longer : tie.Need-add-longer Inv-loop μ-loop
-add-longer c = let few : c .below .result .count < 32 = omega (arith, count-few c, c .before .pre .1) in search needs
+add-longer c = let few : c .below .result .count < generatorRoom = omega (arith, count-few c, c .before .pre .1) in
+    search needs
 
 loop-holds : tie.Need-loop-holds Inv-loop μ-loop
-loop-holds c = (count-few c, grown-more (c .before .args .q) (below-q c) (omega (arith, count-few c, c .before .pre .1)))
+loop-holds c =
+    (count-few c, grown-more (c .before .args .q) (below-q c) (omega (arith, count-few c, c .before .pre .1)))
 
 mul-cleared : tie.Need-mul-cleared Inv-loop μ-loop
 mul-cleared c = let few = start (c .before) .pre .1 in search needs
@@ -107,14 +117,18 @@ add-longer-2 c = let few = start (c .before .before .before) .pre .1 in search n
 
 loop-again : tie.Need-loop-again Inv-loop μ-loop
 loop-again c =
-    let loop = c .before .before .before in
-    (search needs, grown-more (c .cleared .result) (grown-as (loop .loop .inv .1) (here c)) (omega (arith, c .before .before .loop-test .taken, start loop .pre .1)))
+    let loop = c .before .before .before in (
+      search needs,
+      grown-more (c .cleared .result) (grown-as (loop .loop .inv .1) (here c))
+          (omega (arith, c .before .before .loop-test .taken, start loop .pre .1)),
+    )
 
 returns : tie.Need-returns Inv-loop μ-loop
 returns c =
     let loop = c .before in
     let a = start loop .args in
-    grown-all (grown-as (loop .loop .inv .1) (cleared-end (a .t1) (loop .loop .place) (a .t1 .n) (a .q) (c .loop-test .left)))
+    grown-all
+    (grown-as (loop .loop .inv .1) (cleared-end (a .t1) (loop .loop .place) (a .t1 .n) (a .q) (c .loop-test .left)))
 
 pub insert-spec : {M : Type 1} → statement M
 insert-spec =

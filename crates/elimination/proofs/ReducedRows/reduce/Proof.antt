@@ -4,6 +4,7 @@ use mathlib.Core.Path.{_≡_, refl, ap, sym, _∙_}
 use Prim.Native.Nat.{_+_, _-_, _<_}
 use native.Mathlib.Omega.{arith}
 use lib.ListN.{length, drop}
+use Rattle.sheet.specs.Record.{generatorRoom}
 use Rattle.stabilizer.specs.Canonical.{reduced}
 use Rattle.elimination.specs.Answers.{rowsIn}
 use Rattle.elimination.proofs.Rows.{reduced-at, reduced-end}
@@ -14,12 +15,13 @@ use Rattle.elimination.proofs.ReducedRows.reduce.Statement.{statement}
 use Rattle.elimination.proofs.ReducedRows.reduce.Tie as tie
 
 abbrev Inv-loop : tie.InvT-loop
-Inv-loop self n count left₀ place₀ left place = reduced n (drop place (rowsIn self)) left ≡ reduced n (rowsIn self) left₀
+Inv-loop self n count left₀ place₀ left place =
+    reduced n (drop place (rowsIn self)) left ≡ reduced n (rowsIn self) left₀
 
 abbrev μ-loop : tie.MeasureT-loop
 μ-loop self n count left₀ place₀ left place = count - place
 
-room : (c : tie.At-loop Inv-loop μ-loop) → length (c .before .args .t1 .rows) ≡ 32
+room : (c : tie.At-loop Inv-loop μ-loop) → length (c .before .args .t1 .rows) ≡ generatorRoom
 room c = room-of (c .before .args .t1) (c .before .good .0)
 
 few : (c : tie.Then1 Inv-loop μ-loop) → c .before .before .loop .place < c .before .before .before .args .t1 .count
@@ -37,7 +39,8 @@ loop-again c =
     let at = turn .before .before in
     let a = at .before .args in
     ap (reduced (a .t1 .n) (drop (at .loop .place + 1) (rowsIn (a .t1)))) (c .cleared .ensures)
-    ∙ sym (reduced-at (a .t1) (at .loop .place) (a .t1 .n) (at .loop .left) (few turn) (omega (arith, room at))) ∙ at .loop .inv
+    ∙ sym (reduced-at (a .t1) (at .loop .place) (a .t1 .n) (at .loop .left) (few turn) (omega (arith, room at)))
+    ∙ at .loop .inv
 
 returns : tie.Need-returns Inv-loop μ-loop
 returns c =

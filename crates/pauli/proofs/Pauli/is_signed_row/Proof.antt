@@ -17,7 +17,9 @@ returns-2 : tie.Need-returns-2
 unfolding isSignedRow
 returns-2 c =
     let P = c .before .before .before .args .self in
-    c .has-sign2 .ensures ∙ ap (λ (plus : Bool). plus || hasSign Minus P) (sym (c .before .if1 .left) ∙ c .before .before .has-sign .ensures)
+    c .has-sign2 .ensures
+    ∙ ap (λ (plus : Bool). plus || hasSign Minus P)
+    (sym (c .before .if1 .left) ∙ c .before .before .has-sign .ensures)
 
 pub is-signed-row-spec : {M : Type 1} → statement M
 is-signed-row-spec = tie.close (tie.spec (λ c κs. search needs) (λ c κs. search needs) returns returns-2)

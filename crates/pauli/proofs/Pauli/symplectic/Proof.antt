@@ -11,14 +11,18 @@ use Rattle.pauli.proofs.Pauli.symplectic.Tie as tie
 add-result : tie.Need-add-result
 add-result c =
     let at = c .before .before .before .before in
-    omega
-    (arith, ones-and-le 32 (at .args .self .a) (at .args .q .b) (search needs), ones-and-le 32 (at .args .q .a) (at .args .self .b) (search needs))
+    omega (
+      arith,
+      ones-and-le 32 (at .args .self .a) (at .args .q .b) (search needs),
+      ones-and-le 32 (at .args .q .a) (at .args .self .b) (search needs),
+    )
 
 returns : tie.Need-returns
 unfolding symplectic
 returns c =
     let at = c .before .before .before .before in
-    ap₂ (λ (x y : ℕ). (x + y) % 2) (sym (dot-ones (at .args .self .a) (at .args .q .b))) (sym (dot-ones (at .args .q .a) (at .args .self .b)))
+    ap₂ (λ (x y : ℕ). (x + y) % 2) (sym (dot-ones (at .args .self .a) (at .args .q .b)))
+    (sym (dot-ones (at .args .q .a) (at .args .self .b)))
 
 pub symplectic-spec : {M : Type 1} → statement M
 symplectic-spec = tie.close (tie.spec add-result returns)

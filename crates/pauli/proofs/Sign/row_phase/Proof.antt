@@ -16,11 +16,17 @@ signPhase-le Minus = omega arith
 
 add-result : tie.Need-add-result
 add-result c =
-    omega (arith, ones-and-le 32 (c .before .args .a) (c .before .args .b) (search needs), c .phase .ensures, signPhase-le (c .before .args .self))
+    omega (
+      arith,
+      ones-and-le 32 (c .before .args .a) (c .before .args .b) (search needs),
+      c .phase .ensures,
+      signPhase-le (c .before .args .self),
+    )
 
 returns : tie.Need-returns
 unfolding rowPhase
-returns c = ap₂ (λ (x y : ℕ). (x + y) % 4) (sym (dot-ones (c .before .args .a) (c .before .args .b))) (c .phase .ensures)
+returns c =
+    ap₂ (λ (x y : ℕ). (x + y) % 4) (sym (dot-ones (c .before .args .a) (c .before .args .b))) (c .phase .ensures)
 
 pub row-phase-spec : {M : Type 1} → statement M
 row-phase-spec = tie.close (tie.spec (λ c κs. search needs) add-result returns)
