@@ -1,5 +1,6 @@
 // What a writer does with buffers of three lengths.
 use sheet::Code;
+use sheet::LONGEST_SHEET;
 use sheet::Written;
 use test_cases::dots;
 use test_cases::one_less;
@@ -13,11 +14,10 @@ pub enum Writer {
     Canonical,
 }
 
-// Writes with a byte less than the lines take, with as many, and with three more. No lines take more than the 1,352
-// bytes of the longest sheet, so the test never holds; it says to the proof that three more are within the 1,360
-// bytes that there are.
+// Writes with a byte less than the lines take, with as many, and with three more. No lines take more bytes than the
+// longest sheet, so the test never holds; it says to the proof that there are as many dots.
 pub fn write_thrice(writer: Writer, code: Code, used: usize) {
-    if 1357 < used {
+    if LONGEST_SHEET < used {
         return;
     }
     let mut short = dots();

@@ -27,7 +27,10 @@ pub fn print_refusal(refusal: Refusal) {
     print(b" at=");
     io::print_decimal(STDOUT_FILENO, values.line as u64);
     match family {
-        RowFamily::Row(family) => print(&[b' ', b'o', b'f', b'=', family.key()]),
+        RowFamily::Row(family) => {
+            print(b" of=");
+            print(&[family.key()]);
+        }
         RowFamily::NoRow => {}
     }
 }
