@@ -1,4 +1,4 @@
--- Demand 3, `Guarantee` of specs/Statements. Under an admitted sheet every error of weight at most t has a
+-- The third guarantee, `Guarantee` of specs/Statements. Under an admitted sheet every error of weight at most t has a
 -- correction, no heavier, and the two differ by a member of the group (Corrected). Two errors refute the distance
 -- exactly where there is a logical error below d: the product of the two is one, and the letters of one, dealt out
 -- to two strings, are two such errors. The search of 14 finds a logical error below d where there is one, and shows

@@ -1,4 +1,4 @@
--- What is stated of the decoder, and of admission and decoder together: demand 3.
+-- What is stated of the decoder, and of admission and decoder together: the third guarantee.
 use mathlib.Core.Bool.{Bool, true}
 use mathlib.Core.List.{List, [], _∷_, map}
 use mathlib.Core.Logic.{_↔_}
@@ -75,7 +75,7 @@ pub record Candidate (c : Code) (bits : List Bool) (s : List Letter) : Type 0 wh
 abbrev pub CorrectionIsEarliest : Type 0
 CorrectionIsEarliest = (c : Code) (bits : List Bool) → FindsFirst Earlier (Candidate c bits) (correction c bits)
 
--- ---- demand 3, first half: errors are corrected
+-- ---- the third guarantee, first half: errors are corrected
 
 -- RULES, "Guarantees": E's syndrome has a correction, it weighs no more than E, and correction times E is in the group,
 -- phase aside. The decode call given that syndrome writes the correction's letters, or refuses with 17.
@@ -97,7 +97,7 @@ ErrorsAreCorrected =
     (s : List ℕ) → readSheet s .answer ≡ Admission.Admitted → (E : Pauli) → onQubits (readSheet s .code .n) E ≡ true
     → weight E ≤ radius (readSheet s .code) → IsCorrected (readSheet s .code) E
 
--- ---- demand 3, second half: the distance is decided
+-- ---- the third guarantee, second half: the distance is decided
 
 -- RULES, "Guarantees": two errors that together weigh less than d, have equal syndromes, and whose product is not
 -- in the group, phase aside.
@@ -133,7 +133,7 @@ pub record DistanceIsDecided : Type 0 where
   pub otherwise : (s : List ℕ) (q : SheetRead) → AdmissibleButForDistance s q → (Refuted (q .code) → ⊥)
       → readSheet s ≡ admitted (q .code)
 
--- Demand 3 in full: RULES, "Guarantees", 3.
+-- RULES, "Guarantees": the third one in full.
 pub record Guarantee : Type 0 where
   pub corrected : ErrorsAreCorrected
   pub decided : DistanceIsDecided

@@ -42,12 +42,12 @@ others =
           ⧺ "s=00001\n";
       output = "n=6\nk=1\nd=3\nt=1\nh=+YZIZYI\nh=+IXZZXI\nh=+ZZXIXI\nh=+ZIZYYI\nh=-IIIIIX\nc=IIIIIY\n";
     }
-    -- Document 000, table 3.3: eight qubits, three of them logical.
+    -- A published code of eight qubits, three of them logical.
     ∷ record {
       input = eightQubits;
       output = "n=8\nk=3\nd=3\nt=1\nh=+XZIYIYXZ\nh=+IXZYIXZY\nh=-IZXYZIYX\nh=-IIZZYYXX\nh=+ZZZZZZZZ\n";
     }
-    -- Document 000, table 3.5: 10 at line 6; with another last row 9 at line 8 comes before it.
+    -- A code of four qubits as it is printed: 10 at line 6; with another last row 9 at line 8 comes before it.
     ∷ record { input = fourQubits "+IXZZ"; output = "r=10\nat=6\n" }
     ∷ record { input = fourQubits "+IXII"; output = "r=9\nat=8\n" }
     -- Of three qubits, +XII and +ZII anticommute.

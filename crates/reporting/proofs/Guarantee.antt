@@ -1,4 +1,4 @@
--- Demand 3 as a report shows it. The `c=` lines of errors have the letters of their corrections, since a report
+-- The third guarantee as a report shows it. The `c=` lines of errors have the letters of their corrections, since a report
 -- answers each syndrome as the decoder does; and a refuted distance has the four lines of the refusal, whose two
 -- errors are known from the decoder's guarantee to refute it and from admission to be from the earliest logical
 -- error.

@@ -131,7 +131,7 @@ pub data ReportOf (input : List ℕ) : Type 0 where
 abbrev pub EveryReport : Type 0
 EveryReport = (input : List ℕ) → ReportOf input
 
--- ---- demand 3 in a report
+-- ---- the third guarantee, in a report
 
 -- RULES, "Guarantees": the `c=` line of an error that is corrected has the correction's letters.
 abbrev pub CorrectionsAreReported : Type 0
@@ -168,7 +168,7 @@ pub record RefutationIsReported (q : SheetRead) (input : List ℕ) : Type 0 wher
   pub from : FromEarliest (q .code) pair
   pub report : IsReported input (refutationText q pair)
 
--- RULES, "Guarantees": demand 3 of the report's call. Behind an admitted sheet, the syndrome of each error that strikes
+-- RULES, "Guarantees": the third one, of the report's call. Behind an admitted sheet, the syndrome of each error that strikes
 -- at most t qubits has a `c=` line with the letters of its correction. A sheet that is admissible but for distance and
 -- that 14 refuses has a refutation as its report, whatever stands behind it.
 pub record GuaranteeInReports : Type 0 where
