@@ -1,4 +1,4 @@
--- The definitions of this layer at small cases, computed: what 01 says of them in words.
+-- The definitions of this layer at small cases, computed: what the rules say of them in words.
 use mathlib.Core.Path.{_≡_, refl}
 use mathlib.Core.Bool.{true, false}
 use mathlib.Core.List.{List, [], _∷_, map}
@@ -34,7 +34,7 @@ y-is-ixz : product (record { p = 1; a = 0; b = 0 }) (product (ofLetters (X ∷ [
 unfolding definitions
 y-is-ixz = refl
 
--- document 003's Y squares to I
+-- Y squares to I
 y-squared : product (ofLetters (Y ∷ [])) (ofLetters (Y ∷ [])) ≡ identity
 unfolding definitions
 y-squared = refl
