@@ -1,4 +1,4 @@
--- The checks in their order: 15, then 6, then 7 and 8.
+-- What `eliminate` answers, by the check that finds a fault first: 15, then 6, then 7 and 8.
 use mathlib.Core.Bool.{true, false, not}
 use mathlib.Core.List.{[]}
 use mathlib.Core.Option.{Option, none, some}

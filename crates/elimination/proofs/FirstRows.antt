@@ -1,4 +1,5 @@
--- The first rows of a list, one by one from the front.
+-- The first rows of a list, one by one from the front: the row at a place, then the rows behind it; and a test of some
+-- row among them.
 use mathlib.Core.Bool.{Bool, true, false, _||_}
 use mathlib.Core.List.{List, [], _∷_}
 use mathlib.Core.Logic.{_⊎_, inl, ⊎-elim}

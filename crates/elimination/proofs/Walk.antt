@@ -1,4 +1,5 @@
--- A check over the first rows of an array, row by row.
+-- A check over the first rows of an array, row by row: what it finds from a place on is what it finds at that row, or
+-- else from the next place on.
 use mathlib.Core.List.{List, [], _∷_, _++_}
 use mathlib.Core.Logic.{inl}
 use mathlib.Core.Option.{Option, none}

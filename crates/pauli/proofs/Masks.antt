@@ -117,19 +117,21 @@ module _
   pub joined-step : (a b : ℕ) → countOnes (f a b) ≡ f (a % 2) (b % 2) + countOnes (f (a / 2) (b / 2))
   joined-step a b = countOnes-step (f a b) ∙ ap₂ (λ (x y : ℕ). x + countOnes y) (low a b) (half a b)
 
+  -- And with what they share, G, they are the ones of both, if the lowest bits are.
+  joined-and-shared : (G shared : ℕ → ℕ → ℕ) → ((a b : ℕ) → G a b ≡ shared (a % 2) (b % 2) + G (a / 2) (b / 2))
+      → ((a b : ℕ) → f (a % 2) (b % 2) + shared (a % 2) (b % 2) ≡ a % 2 + b % 2)
+      → ((b : ℕ) → countOnes (f 0 b) + G 0 b ≡ countOnes 0 + countOnes b)
+      → (a b : ℕ) → countOnes (f a b) + G a b ≡ countOnes a + countOnes b
+  joined-and-shared G shared step lowest base =
+      bin-ind (λ (a : ℕ). (b : ℕ) → countOnes (f a b) + G a b ≡ countOnes a + countOnes b) base
+      (λ a ih b. omega
+      (arith, joined-step a b, step a b, countOnes-step a, countOnes-step b, ih (b / 2), lowest a b))
+
 -- The ones of a and of b are those where they differ and, twice, those that they share.
 pub countOnes-xor : (a b : ℕ) → countOnes (bitXor a b) + 2 * countOnes (bitAnd a b) ≡ countOnes a + countOnes b
 countOnes-xor =
-    bin-ind (λ (a : ℕ). (b : ℕ) → countOnes (bitXor a b) + 2 * countOnes (bitAnd a b) ≡ countOnes a + countOnes b) base
-    (λ a ih b. omega (
-      arith,
-      joined-step bitXor xor-half xor-low a b,
-      joined-step bitAnd and-half and-low a b,
-      countOnes-step a,
-      countOnes-step b,
-      ih (b / 2),
-      low a b,
-    ))
+    joined-and-shared bitXor xor-half xor-low (λ a b. 2 * countOnes (bitAnd a b)) (λ x y. 2 * bitAnd x y)
+    (λ a b. omega (arith, joined-step bitAnd and-half and-low a b)) low base
   where
     base : (b : ℕ) → countOnes b + 2 * countOnes 0 ≡ countOnes 0 + countOnes b
     base b = omega (arith, countOnes-zero)
@@ -148,16 +150,8 @@ parity-xor a b = same-remainder 2 _ _ (countOnes (bitAnd a b)) 0 (omega (arith, 
 -- Those of either are fewer by those that they share.
 pub countOnes-or : (a b : ℕ) → countOnes (bitOr a b) + countOnes (bitAnd a b) ≡ countOnes a + countOnes b
 countOnes-or =
-    bin-ind (λ (a : ℕ). (b : ℕ) → countOnes (bitOr a b) + countOnes (bitAnd a b) ≡ countOnes a + countOnes b) base
-    (λ a ih b. omega (
-      arith,
-      joined-step bitOr or-half or-low a b,
-      joined-step bitAnd and-half and-low a b,
-      countOnes-step a,
-      countOnes-step b,
-      ih (b / 2),
-      low a b,
-    ))
+    joined-and-shared bitOr or-half or-low (λ a b. countOnes (bitAnd a b)) bitAnd (joined-step bitAnd and-half and-low)
+    low base
   where
     base : (b : ℕ) → countOnes b + countOnes 0 ≡ countOnes 0 + countOnes b
     base b = omega arith

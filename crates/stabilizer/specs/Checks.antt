@@ -34,7 +34,7 @@ dependence before at P =
     refuseIf (anyOf (samePauli minusIdentity) products) (Refusal.MinusIdentity at Family.Generator)
     then refuseIf (anyOf (samePauli identity) products) (Refusal.DependentGenerator at Family.Generator)
 
--- RULES, "Admission": 6 runs over all rows, then 7 and 8 together. `at` is the line of the first row.
+-- RULES, "Refusals": 6 runs over all rows, then 7 and 8 together. `at` is the line of the first row.
 unfoldable pub generatorFault : ℕ → List Pauli → Option Refusal
 generatorFault at rows = firstFault clash [] at rows then firstFault dependence [] at rows
 

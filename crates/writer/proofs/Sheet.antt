@@ -1,4 +1,4 @@
--- The sheet: how long it is, the lines up to each key, and what the call answers.
+-- The sheet: its length as the sum of its lines', the lines up to each key, and what the call answers.
 use mathlib.Core.Bool.{true, false}
 use mathlib.Core.List.{List, [], _∷_, _++_}
 use mathlib.Core.Path.{_≡_, refl, ap}

@@ -25,12 +25,12 @@ numberText key m = key ++ decimal m ++ lineFeed ∷ []
 unfoldable pub rowLineText : ℕ → ℕ → Pauli → List ℕ
 rowLineText key n P = key ∷ code "=" ∷ rowText n P ++ lineFeed ∷ []
 
--- RULES, "The writer": the line of a number by itself, with any key: 17, then the line and its length.
+-- RULES, "Calls and buffers": the line of a number by itself, with any key: 17, then the line and its length.
 unfoldable pub writeNumber : List ℕ → ℕ → List ℕ → After Written
 writeNumber key m buffer = written none (numberText key m) buffer
 
--- RULES, "The writer": the line of a row by itself, with any key: 15 where n is not 2 to 24, then 17, then the line and
--- its length. Of any Pauli it shows what `rowText` does.
+-- RULES, "Calls and buffers": the line of a row by itself, with any key: 15 where n is not 2 to 24, then 17, then the
+-- line and its length. Of any Pauli it shows what `rowText` does.
 unfoldable pub writeRow : ℕ → ℕ → Pauli → List ℕ → After Written
 writeRow key n P buffer =
     written (refuseIf (not (between 2 mostQubits n)) Refusal.RecordLimits) (rowLineText key n P) buffer

@@ -1,4 +1,4 @@
--- The checks, 17, or the lines.
+-- The call answers as `writeCanonical` says: the fault of the checks, or 17 where the lines have no room, or the lines.
 use mathlib.Core.Option.{none}
 use mathlib.Core.Path.{_≡_, ap, sym, _∙_}
 use Prim.Native.Nat.{_+_, _≤_, _<_}

@@ -1,4 +1,4 @@
--- The rows before a place are tried in turn.
+-- Whether a row anticommutes with an earlier one: the rows before its place are tried in turn.
 use mathlib.Core.Bool.{not}
 use mathlib.Core.Path.{_≡_, refl, ap, sym, _∙_}
 use Prim.Native.Nat.{_-_, _<_, _≤_}

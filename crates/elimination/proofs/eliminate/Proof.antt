@@ -1,4 +1,4 @@
--- 15, then 6, then 7 and 8.
+-- The checks of a record's generators in their order, 15, then 6, then 7 and 8: the first that finds a fault answers.
 use mathlib.Core.Bool.{true}
 use mathlib.Core.List.{[]}
 use mathlib.Core.Option.{none}

@@ -1,4 +1,4 @@
--- The masks are tried in turn.
+-- A Pauli is I, phase aside, where both masks are 0; they are tried in turn.
 use borrow.Author.Tests.{eq-eqb, ne-eqb}
 use Rattle.pauli.specs.Product.{sameMasks}
 use Rattle.sheet.proofs.RowLimits.{and-true-l, and-false-l}

@@ -1,4 +1,4 @@
--- The masks are tried first, then the phase.
+-- What a row was, from what is left of it: independent where a mask is not 0, else -I or +I by the phase.
 use borrow.Author.Needs.{needs}
 use Rattle.sheet.proofs.RowLimits.{passed, failed}
 use Rattle.elimination.proofs.RowKinds.{kind-independent, kind-minus, kind-plus}

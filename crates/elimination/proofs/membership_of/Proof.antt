@@ -1,4 +1,5 @@
--- The checks, then the sign that the canonical generators tell.
+-- Membership with its sign: the checks first, then the sign that the canonical generators tell of the row + with P's
+-- masks.
 use mathlib.Core.Path.{_≡_}
 use Rattle.elimination.specs.declared.Kind.{Kind}
 use Rattle.elimination.specs.Answers.{membership}

@@ -1,4 +1,4 @@
--- A refusal, and no row beside it.
+-- A refusal as the answer, and no row beside it.
 use mathlib.Core.Path.{ap}
 use Rattle.elimination.specs.declared.Checked.{Checked}
 use Rattle.elimination.specs.Answers.{eliminated}

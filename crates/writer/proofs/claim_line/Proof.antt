@@ -1,4 +1,4 @@
--- The key and its `=`, the letters behind them, the line feed.
+-- The line of the claimed logical: its key and `=`, the letters laid behind them, the line feed.
 use mathlib.Core.List.{List, [], _∷_}
 use mathlib.Core.Path.{_≡_, ap, sym, _∙_}
 use Prim.Native.Nat.{ℕ, _+_, _≤_}

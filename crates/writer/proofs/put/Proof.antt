@@ -1,4 +1,4 @@
--- The buffer holds the bytes that were passed; each turn lays the next.
+-- The bytes of a text: the buffer holds those that were passed, and each turn lays the next.
 use mathlib.Core.Path.{_≡_, ap, _∙_}
 use Prim.Native.Nat.{_-_, _≤_}
 use native.Mathlib.Omega.{arith}

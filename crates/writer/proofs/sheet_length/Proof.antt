@@ -1,4 +1,4 @@
--- The lengths of the lines; no sum is above that of the longest sheet.
+-- The sheet's length is the sum of its lines', and no sum on the way is above that of the longest sheet.
 use mathlib.Core.Path.{_≡_, ap, ap₂, sym, _∙_}
 use Prim.Native.Nat.{ℕ, _+_, _*_, _≤_}
 use native.Mathlib.Omega.{arith}

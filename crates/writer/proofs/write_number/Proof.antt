@@ -1,4 +1,4 @@
--- 17, where the key or the line has no room, or the number's line.
+-- The call for one number answers as `writeNumber` says: 17 where the key or the line has no room, or the line.
 use mathlib.Core.Path.{ap, sym, _∙_}
 use Prim.Native.Nat.{_+_, _<_, _≤_}
 use native.Mathlib.Omega.{arith}

@@ -1,4 +1,4 @@
--- 15, 17, or the row's line, as the tests say.
+-- The call for one row answers as `writeRow` says: 15, or 17, or the row's line, as the tests go.
 use mathlib.Core.Logic.{inl, inr}
 use mathlib.Core.Path.{ap, sym, _∙_}
 use Prim.Native.Nat.{_≤_}

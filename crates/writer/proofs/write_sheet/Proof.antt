@@ -1,4 +1,4 @@
--- 15, 17, or the sheet's lines, as the tests say.
+-- The call answers as `writeSheet` says: 15, or 17, or the sheet's lines, as the tests go.
 use mathlib.Core.Bool.{true}
 use mathlib.Core.Path.{_≡_, ap, sym, _∙_}
 use Prim.Native.Nat.{_≤_}

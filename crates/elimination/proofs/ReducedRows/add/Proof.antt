@@ -1,4 +1,4 @@
--- What is left decides.
+-- The elimination step: where only a phase is left of the row, the rows stay; otherwise what is left joins them.
 use Rattle.elimination.proofs.RowKinds.{step-dependent, step-independent}
 use mathlib.Core.Path.{sym, _∙_}
 use borrow.Author.Needs.{needs}

@@ -1,4 +1,5 @@
--- The rows that were passed stand before those that are passed from here on.
+-- The rows whose pivot comes before q's, cleared: those that were passed, joined with those still to pass, are all of
+-- them, and the first row behind q ends the list.
 use mathlib.Core.Bool.{Bool}
 use mathlib.Core.List.{_∷_}
 use mathlib.Core.Path.{_≡_, ap, ap₂, sym, _∙_}

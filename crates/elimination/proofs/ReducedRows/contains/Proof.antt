@@ -1,4 +1,4 @@
--- What is left is tested.
+-- The rows contain a Pauli where what they leave of it is I, phase aside: what is left is tested, not the Pauli.
 use mathlib.Core.Path.{ap, _∙_}
 use Rattle.pauli.specs.Product.{identity, sameMasks}
 use Rattle.stabilizer.specs.Canonical.{reducesToIdentity}

@@ -1,4 +1,4 @@
--- An array of +I has no row yet.
+-- No row yet: the count is 0, and the array has +I in every place.
 use mathlib.Core.Path.{ap}
 use lib.ListN.{replicate}
 use Rattle.sheet.specs.Record.{generatorRoom, filled}

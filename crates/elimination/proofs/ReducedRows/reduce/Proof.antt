@@ -1,4 +1,4 @@
--- What is left after each row, against the rows behind it.
+-- What the rows leave of a row: after each row, what the rows behind it leave of what is left is the same.
 use mathlib.Core.Logic.{inl, inr}
 use mathlib.Core.Path.{_≡_, refl, ap, sym, _∙_}
 use Prim.Native.Nat.{_+_, _-_, _<_}

@@ -1,4 +1,4 @@
--- The symplectic product is 0.
+-- Two Paulis commute where their symplectic product is 0: the code compares that number with 0.
 use mathlib.Core.Path.{ap}
 use lib.Dec.{eqb}
 use Prim.Native.Nat.{ℕ}

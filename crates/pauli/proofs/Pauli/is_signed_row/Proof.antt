@@ -1,4 +1,4 @@
--- The two signs are tried in turn.
+-- A Pauli is a signed row where its phase is that of one of the two signs, which are tried in turn.
 use mathlib.Core.Bool.{Bool, _||_}
 use mathlib.Core.Path.{ap, sym, _∙_}
 use borrow.Author.Needs.{needs}

@@ -1,4 +1,4 @@
--- The sign is + where + fits the phase.
+-- The sign is + where the phase is that of +, and - otherwise, as the definition has it.
 use mathlib.Core.Bool.{Bool, cond}
 use mathlib.Core.Path.{ap, sym, _∙_}
 use borrow.Author.Needs.{needs}

@@ -1,4 +1,4 @@
--- The phase is the one that the sign gives.
+-- A signed row has the masks as given, and the phase that the sign gives to them.
 use mathlib.Core.Path.{ap}
 use Prim.Native.Nat.{ℕ}
 use borrow.Author.Needs.{needs}
