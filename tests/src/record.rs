@@ -196,7 +196,8 @@ impl Pauli {
         pauli
     }
 
-    /// The signed row on n qubits that this is, or none where a bit stands above qubit n or the phase is that of no sign.
+    /// The signed row on n qubits that this is, or none where a bit stands above qubit n or the phase is that of no
+    /// sign.
     fn row(&self, n: usize) -> Option<Row> {
         let letters = self.letters(32);
         if letters[n..].iter().any(|&letter| letter != Letter::I) {
