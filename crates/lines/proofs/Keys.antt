@@ -18,7 +18,8 @@ use Rattle.sheet.proofs.Limits.{both}
 use Rattle.sheet.proofs.Values.{readByte-byte}
 use Rattle.lines.specs.declared.LineKind.{LineKind}
 use Rattle.lines.proofs.LineKind.{the-type}
-use Rattle.lines.specs.declared.LineKind.the-variants.{Qubits, Distance, Generator, LogicalX, LogicalZ, Claim, Other}
+use Rattle.lines.specs.declared.LineKind.the-variants.{Qubits, Distance, Generator, LogicalX, LogicalZ, Claim}
+use Rattle.lines.specs.declared.LineKind.the-variants.{Other}
 use Rattle.lines.specs.LineKinds.{kindByte, kindKey, kinds, orOther, kindOf, lineKind}
 
 kind-of-byte : (k : LineKind) → kindOf (kindByte k) ≡ k
@@ -46,7 +47,8 @@ module _ (k : LineKind) where
   kind-begins (c ∷ []) keyed e = absurd (omega (arith, ap kindByte e))
   kind-begins (c ∷ d ∷ s) keyed e = by-equals (eqb d 61) refl e
     where
-      by-equals : (b : Bool) → eqb d 61 ≡ b → cond b (kindOf c) Other ≡ k → (eqb (kindByte k) c && (eqb 61 d && true)) ≡ true
+      by-equals : (b : Bool) → eqb d 61 ≡ b → cond b (kindOf c) Other ≡ k
+          → (eqb (kindByte k) c && (eqb 61 d && true)) ≡ true
       by-equals true f e =
           rw (eq-eqb (kindByte k) c (sym (byte-of-kind c k keyed e)), eq-eqb 61 d (sym (eqb-true d 61 f)))
       by-equals false f e = absurd (omega (arith, ap kindByte e))
@@ -119,7 +121,8 @@ row-keyed Family.LogicalX = omega arith
 row-keyed Family.LogicalZ = omega arith
 
 -- Where the kind of the line is the family's, a row of it begins there, and else none.
-module _ (s : List ℕ) {kind : LineKind} (told : kind ≡ lineKind s) {family : Family} (f : Family) (is : family ≡ f) where
+module _ (s : List ℕ) {kind : LineKind} (told : kind ≡ lineKind s) {family : Family} (f : Family)
+    (is : family ≡ f) where
   pub row-begins : kind ≡ rowKind f → true ≡ begins (bytes (rowKey family)) s
   row-begins e =
       sym

@@ -1,7 +1,6 @@
 -- The form of a line, as the code tests it: its key, the line feed behind its value; and what a reader of it answers.
-use mathlib.Core.Bool.{Bool, true, false, cond, _&&_}
+use mathlib.Core.Bool.{Bool, true, false, cond}
 use mathlib.Core.List.{List, [], _∷_}
-use mathlib.Core.Logic.{_⊎_}
 use mathlib.Core.Option.{Option, none, some}
 use mathlib.Core.Path.{_≡_, refl, ap, sym, _∙_}
 use Prim.Native.Nat.{ℕ, suc, _+_, _-_, _<_, _≤_}
@@ -17,15 +16,14 @@ use Rattle.pauli.specs.Letters.{readSign, rowOf}
 use Rattle.pauli.specs.Lists.{bytes}
 use Rattle.sheet.specs.declared.Family.{Family}
 use Rattle.sheet.specs.declared.Refusal.{Refusal}
-use Rattle.sheet.specs.Reader.{Parsed, Reader, got, stop, done, continue, begins, gotOr, readLetters, readRow, inRange}
+use Rattle.sheet.specs.Reader.{Reader, got, stop, continue, begins, gotOr, readLetters, readRow, inRange}
 use Rattle.sheet.specs.Reader.{isLine, lineOf, readNumber, qubitDigits, qubitLine, distanceLine, rowLine, claimLine}
 use Rattle.sheet.specs.Record.{mostQubits, longestDistance, rowKey}
 use Rattle.sheet.specs.Text.{lineFeed}
-use Rattle.sheet.proofs.Limits.{bounds-between, outside-between}
 use Rattle.sheet.proofs.Line.{nonzero-within}
 use Rattle.lines.specs.declared.LineKind.{LineKind}
 use Rattle.lines.specs.LineKinds.{kindByte, kindKey, lineKind}
-use Rattle.lines.specs.Answers.{keyOf, rowBehindKey, withinQubits, linesOf, valueOr}
+use Rattle.lines.specs.Answers.{keyOf, rowBehindKey, withinQubits}
 use Rattle.lines.proofs.Keys.{key-taken, kind-begins, other-begins, rowKind, row-key}
 use Rattle.lines.proofs.Values.{row-no-sign, row-no-letters, row-value}
 
@@ -64,7 +62,8 @@ module _ {A : Type 0} (m : ℕ) (read : List ℕ → Option A) (refusal : Refusa
     unfolding lineOf gotOr
     line-no-value f = rw (formed, two, f)
 
-    pub line-value : (a : A) → read (take m (drop 2 s)) ≡ some a → lineOf (keyOf s) m read refusal s ≡ got a (drop (m + 3) s)
+    pub line-value : (a : A) → read (take m (drop 2 s)) ≡ some a
+        → lineOf (keyOf s) m read refusal s ≡ got a (drop (m + 3) s)
     unfolding lineOf gotOr
     line-value a f =
         let places : 2 + (m + 1) ≡ m + 3 = omega arith in
@@ -73,7 +72,8 @@ module _ {A : Type 0} (m : ℕ) (read : List ℕ → Option A) (refusal : Refusa
 -- ---- a line of a kind
 
 module _ (k : LineKind) {A : Type 0} (m : ℕ) (read : List ℕ → Option A) (refusal : Refusal) (s : List ℕ) where
-  pub line-of-kind : 0 < kindByte k → lineKind s ≡ k → lineOf (kindKey k) m read refusal s ≡ lineOf (keyOf s) m read refusal s
+  pub line-of-kind : 0 < kindByte k → lineKind s ≡ k
+      → lineOf (kindKey k) m read refusal s ≡ lineOf (keyOf s) m read refusal s
   unfolding keyOf
   line-of-kind keyed e = ap (λ key. lineOf key m read refusal s) (key-taken k s (kind-begins k s keyed e))
 
@@ -84,17 +84,20 @@ module _ (k : LineKind) {A : Type 0} (m : ℕ) (read : List ℕ → Option A) (r
 -- The lines of n, d and w by their kinds' keys.
 pub qubit-line-form : (s : List ℕ)
     → qubitLine s
-    ≡ continue (lineOf (kindKey LineKind.Qubits) (qubitDigits s) readNumber (Refusal.Form 1) s) (inRange 2 mostQubits (Refusal.QubitCount 1))
+    ≡ continue (lineOf (kindKey LineKind.Qubits) (qubitDigits s) readNumber (Refusal.Form 1) s)
+    (inRange 2 mostQubits (Refusal.QubitCount 1))
 unfolding qubitLine bytes
 qubit-line-form s = refl
 
 pub distance-line-form : (s : List ℕ)
     → distanceLine s
-    ≡ continue (lineOf (kindKey LineKind.Distance) 1 readNumber (Refusal.Form 2) s) (inRange 1 longestDistance (Refusal.DistanceRange 2))
+    ≡ continue (lineOf (kindKey LineKind.Distance) 1 readNumber (Refusal.Form 2) s)
+    (inRange 1 longestDistance (Refusal.DistanceRange 2))
 unfolding distanceLine bytes
 distance-line-form s = refl
 
-pub claim-line-form : (n at : ℕ) (s : List ℕ) → claimLine n at s ≡ lineOf (kindKey LineKind.Claim) n readLetters (Refusal.Form at) s
+pub claim-line-form : (n at : ℕ) (s : List ℕ)
+    → claimLine n at s ≡ lineOf (kindKey LineKind.Claim) n readLetters (Refusal.Form at) s
 unfolding claimLine bytes
 claim-line-form n at s = refl
 
@@ -140,7 +143,8 @@ module _ (n at : ℕ) (s : List ℕ) (formed : isLine (keyOf s) (n + 1) s ≡ tr
   pub row-line-no-letters : readLetters (take n (drop 3 s)) ≡ none → rowBehindKey n at s ≡ stop (Refusal.Form at)
   row-line-no-letters e = no-row (row-no-letters (getD s 2 0) (take n (drop 3 s)) e)
 
-  pub row-line-value : (g : Sign) (P : Pauli) → readSign (getD s 2 0) ≡ some g → readLetters (take n (drop 3 s)) ≡ some P
+  pub row-line-value : (g : Sign) (P : Pauli) → readSign (getD s 2 0) ≡ some g
+      → readLetters (take n (drop 3 s)) ≡ some P
       → rowBehindKey n at s ≡ got (rowOf g (P .a) (P .b)) (drop (n + 4) s)
   row-line-value g P e h =
       let places : n + 1 + 3 ≡ n + 4 = omega arith in

@@ -1,4 +1,5 @@
--- What a reader answers and what the definition gives: the answer has the count of bytes, which tells where the rest begins.
+-- What a reader answers and what the definition gives: the answer has the count of bytes, which tells where the rest
+-- begins.
 use mathlib.Core.List.{List}
 use mathlib.Core.Logic.{_⊎_}
 use mathlib.Core.Path.{_≡_, refl, ap, sym, _∙_}
@@ -10,22 +11,23 @@ use Rattle.sheet.specs.declared.Lines.{Lines}
 use Rattle.sheet.specs.declared.Refusal.{Refusal}
 use Rattle.sheet.specs.Reader.{Parsed, Reader, got, stop, done, continue, inRange}
 use Rattle.sheet.proofs.Limits.{bounds-between, outside-between}
-use Rattle.lines.specs.declared.NumberLine.{NumberLine}
-use Rattle.lines.specs.declared.RowLine.{RowLine}
 use Rattle.lines.specs.Answers.{linesOf, valueOr, numberAnswer, rowAnswer}
 
 pub bytes-used : (s : List ℕ) (used : ℕ) → used ≤ length s → used ≡ length s - length (drop used s)
 bytes-used s used h = omega (arith, length-drop used s)
 
 module _ (s : List ℕ) (used : ℕ) (within : used ≤ length s) where
-  pub number-read : {p : Parsed ℕ} (m : ℕ) → p ≡ got m (drop used s) → record { answer = Lines.Read used; number = m } ≡ numberAnswer s p
+  pub number-read : {p : Parsed ℕ} (m : ℕ) → p ≡ got m (drop used s)
+      → record { answer = Lines.Read used; number = m } ≡ numberAnswer s p
   unfolding numberAnswer linesOf valueOr
   number-read m e =
       ap (λ k. record { answer = Lines.Read k; number = m }) (bytes-used s used within) ∙ ap (numberAnswer s) (sym e)
 
-  pub row-read : {p : Parsed Pauli} (P : Pauli) → p ≡ got P (drop used s) → record { answer = Lines.Read used; row = P } ≡ rowAnswer s p
+  pub row-read : {p : Parsed Pauli} (P : Pauli) → p ≡ got P (drop used s)
+      → record { answer = Lines.Read used; row = P } ≡ rowAnswer s p
   unfolding rowAnswer linesOf valueOr
-  row-read P e = ap (λ k. record { answer = Lines.Read k; row = P }) (bytes-used s used within) ∙ ap (rowAnswer s) (sym e)
+  row-read P e =
+      ap (λ k. record { answer = Lines.Read k; row = P }) (bytes-used s used within) ∙ ap (rowAnswer s) (sym e)
 
 -- ---- what the answer tells of the definition
 

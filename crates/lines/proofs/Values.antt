@@ -59,7 +59,8 @@ module _ (d : ℕ) (nonzero : d ≡ 0 → ⊥) where
   no-second-digit (c ∷ []) h p q = absurd (omega arith)
   no-second-digit (c ∷ c' ∷ w) h p q = rw (p, q)
 
-  pub two-digits : (w : List ℕ) (e : ℕ) → length w ≡ 2 → readDigit (getD w 0 0) ≡ some d → readDigit (getD w 1 0) ≡ some e
+  pub two-digits : (w : List ℕ) (e : ℕ) → length w ≡ 2 → readDigit (getD w 0 0) ≡ some d
+      → readDigit (getD w 1 0) ≡ some e
       → readNumber w ≡ some (d * 10 + e)
   unfolding readNumber readEach bind
   two-digits [] e h p q = absurd (omega arith)
@@ -70,7 +71,8 @@ module _ (d : ℕ) (nonzero : d ≡ 0 → ⊥) where
 -- ---- letters
 
 -- One more letter in front.
-pub letter-more : (c : ℕ) (l : Letter) (w : List ℕ) (a b : ℕ) → readLetter c ≡ some l → readLetters w ≡ some (rowOf Plus a b)
+pub letter-more : (c : ℕ) (l : Letter) (w : List ℕ) (a b : ℕ) → readLetter c ≡ some l
+    → readLetters w ≡ some (rowOf Plus a b)
     → readLetters (c ∷ w) ≡ some (rowOf Plus (xBit l + 2 * a) (zBit l + 2 * b))
 unfolding readLetters readEach bind ofLetters signedRow rowOf xMask zMask maskOf
 letter-more c l w a b e f =
@@ -78,7 +80,8 @@ letter-more c l w a b e f =
     rw (e, found .1) (ap (λ P. some (rowOf Plus (xBit l + 2 * P .a) (zBit l + 2 * P .b))) (found .2))
 
 -- The letter before a place, where those from the place on are read.
-pub letters-step : (w : List ℕ) (place a b x z : ℕ) (l : Letter) → 0 < place → place ≤ length w → readLetters (drop place w) ≡ some (rowOf Plus a b)
+pub letters-step : (w : List ℕ) (place a b x z : ℕ) (l : Letter) → 0 < place → place ≤ length w
+    → readLetters (drop place w) ≡ some (rowOf Plus a b)
     → readLetter (getD w (place - 1) 0) ≡ some l → x ≡ xBit l → z ≡ zBit l
     → readLetters (drop (place - 1) w) ≡ some (rowOf Plus (x + 2 * a) (z + 2 * b))
 letters-step w zero a b x z l h k e f p q = absurd (omega arith)
@@ -86,14 +89,17 @@ letters-step w (suc i) a b x z l h k e f p q =
     let before : suc i - 1 ≡ i = omega arith in
     ap (λ j. readLetters (drop j w)) before ∙ ap readLetters (drop-cons w i 0 (omega arith))
     ∙ letter-more (getD w i 0) l (drop (suc i) w) a b (ap (λ j. readLetter (getD w j 0)) (sym before) ∙ f) e
-    ∙ ap (λ u. some (rowOf Plus (u + 2 * a) (zBit l + 2 * b))) (sym p) ∙ ap (λ u. some (rowOf Plus (x + 2 * a) (u + 2 * b))) (sym q)
+    ∙ ap (λ u. some (rowOf Plus (u + 2 * a) (zBit l + 2 * b))) (sym p)
+    ∙ ap (λ u. some (rowOf Plus (x + 2 * a) (u + 2 * b))) (sym q)
 
 -- The masks of at most 24 letters are below 2^24.
-pub letters-small : (w : List ℕ) (place a b : ℕ) → length w ≤ 24 → readLetters (drop place w) ≡ some (rowOf Plus a b) → (a < 2 ^ 24) × (b < 2 ^ 24)
+pub letters-small : (w : List ℕ) (place a b : ℕ) → length w ≤ 24 → readLetters (drop place w) ≡ some (rowOf Plus a b)
+    → (a < 2 ^ 24) × (b < 2 ^ 24)
 unfolding readLetters ofLetters signedRow rowOf
 letters-small w place a b h e =
     let found = map-eq-some-iff ofLetters (readEach readLetter (drop place w)) .0 e in
-    let size : length (found .0) ≤ 24 = omega (arith, letters-count (drop place w) (found .0) (found .1), length-drop place w) in
+    let size : length (found .0) ≤ 24 = omega
+    (arith, letters-count (drop place w) (found .0) (found .1), length-drop place w) in
     let room = pow-le-pow-right {n = 2} (omega arith) size in (
       omega (arith, ap (λ P. P .a) (found .2), xMask-lt (found .0), room),
       omega (arith, ap (λ P. P .b) (found .2), zMask-lt (found .0), room),

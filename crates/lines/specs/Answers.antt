@@ -2,6 +2,7 @@
 use mathlib.Core.Bool.{cond}
 use mathlib.Core.List.{List}
 use mathlib.Core.Option.{Option, none, some}
+use mathlib.Core.Path.{_≡_}
 use Prim.Native.Nat.{ℕ, _+_, _-_}
 use lib.Dec.{ltb}
 use lib.ListN.{length, take}
@@ -10,7 +11,7 @@ use Rattle.pauli.specs.Product.{identity}
 use Rattle.sheet.specs.declared.Lines.{Lines}
 use Rattle.sheet.specs.declared.Refusal.{Refusal}
 use Rattle.sheet.specs.Record.{mostQubits}
-use Rattle.sheet.specs.Reader.{Parsed, Reader, got, stop, lineOf, readNumber, readRow}
+use Rattle.sheet.specs.Reader.{Parsed, Reader, got, stop, continue, lineOf, readNumber, readRow}
 use Rattle.lines.specs.declared.Number.{Number}
 use Rattle.lines.specs.declared.Letters.{Letters}
 use Rattle.lines.specs.declared.NumberLine.{NumberLine}
@@ -55,3 +56,8 @@ numberAnswer s p = record { answer = linesOf s p; number = valueOr 0 p }
 
 unfoldable pub rowAnswer : List ℕ → Parsed Pauli → RowLine
 rowAnswer s p = record { answer = linesOf s p; row = valueOr identity p }
+
+-- The number of a line goes on to a next reader, as a check of its range is.
+abbrev pub NarrowedTo : NumberLine → (ℕ → Reader ℕ) → NumberLine → Type 0
+NarrowedTo line next narrowed =
+    (s : List ℕ) (p : Parsed ℕ) → line ≡ numberAnswer s p → narrowed ≡ numberAnswer s (continue p next)

@@ -8,7 +8,8 @@ use lib.Dec.{eqb}
 use lib.ListN.{getD}
 use Rattle.pauli.specs.Lists.{readByte}
 use Rattle.lines.specs.declared.LineKind.{LineKind}
-use Rattle.lines.specs.declared.LineKind.the-variants.{Qubits, Distance, Generator, LogicalX, LogicalZ, Claim, Other}
+use Rattle.lines.specs.declared.LineKind.the-variants.{Qubits, Distance, Generator, LogicalX, LogicalZ, Claim}
+use Rattle.lines.specs.declared.LineKind.the-variants.{Other}
 
 -- RULES, "The sheet": each kind of line has its key. The byte of the key; a line of another kind has none.
 abbrev pub kindByte : LineKind → ℕ

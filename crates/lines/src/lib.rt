@@ -1,5 +1,5 @@
-// The readers of a sheet's single lines. Each is lent the bytes that remain, and answers how many of them the line took, or the refusal that
-// ends the reading, with the line's value beside it.
+// The readers of a sheet's single lines. Each is lent the bytes that remain, and answers how many of them the line
+// took, or the refusal that ends the reading, with the line's value beside it.
 use pauli::Letter;
 use pauli::LetterRead;
 use pauli::Pauli;
@@ -16,10 +16,10 @@ ghost use Prim.Native.Nat.{ℕ, _+_, _≤_, _<_};
 ghost use lib.ListN.{length};
 ghost use Rattle.pauli.specs.Lists.{bytes};
 ghost use Rattle.sheet.specs.Record.{mostQubits, rowKey};
-ghost use Rattle.sheet.specs.Reader.{Parsed, continue, begins, isLine, qubitDigits, readDigit, readNumber, readLetters};
+ghost use Rattle.sheet.specs.Reader.{stop, begins, isLine, qubitDigits, readDigit, readNumber, readLetters};
 ghost use Rattle.sheet.specs.Reader.{inRange, qubitLine, distanceLine, claimLine};
 ghost use Rattle.lines.specs.LineKinds.{lineKind};
-ghost use Rattle.lines.specs.Answers.{keyOf, numberIn, rowIn, numberAnswer, rowAnswer};
+ghost use Rattle.lines.specs.Answers.{keyOf, numberIn, rowIn, numberAnswer, rowAnswer, NarrowedTo};
 ghost use Rattle.lines.specs.Answers.{numberBehindKey, rowBehindKey, withinQubits};
 
 // The kinds of lines, each told by its key.
@@ -157,7 +157,7 @@ pub struct NumberLine {
 
 impl NumberLine {
     fn refused(refusal: Refusal) -> NumberLine
-        ensures { λ r. ⌜ ((s : List ℕ) → r ≡ numberAnswer s (Parsed.stop refusal)) ⌝ }
+        ensures { λ r. ⌜ ((s : List ℕ) → r ≡ numberAnswer s (stop refusal)) ⌝ }
     {
         NumberLine {
             answer: Lines::Refused(refusal),
@@ -167,7 +167,7 @@ impl NumberLine {
 
     // The line as it was read, where its number is low to high.
     fn in_range(self, low: usize, high: usize, refusal: Refusal) -> NumberLine
-        ensures { λ r. ⌜ ((s : List ℕ) (p : Parsed ℕ) → self ≡ numberAnswer s p → r ≡ numberAnswer s (continue p (inRange low high refusal))) ⌝ }
+        ensures { λ r. ⌜ NarrowedTo self (inRange low high refusal) r ⌝ }
     {
         let answer = self.answer;
         let Lines::Read { used: _ } = answer else {
@@ -239,7 +239,7 @@ pub struct RowLine {
 
 impl RowLine {
     fn refused(at: usize) -> RowLine
-        ensures { λ r. ⌜ ((s : List ℕ) → r ≡ rowAnswer s (Parsed.stop (Refusal.Form at))) ⌝ }
+        ensures { λ r. ⌜ ((s : List ℕ) → r ≡ rowAnswer s (stop (Refusal.Form at))) ⌝ }
     {
         RowLine {
             answer: Lines::Refused(Refusal::Form(at)),

@@ -16,8 +16,10 @@ use Rattle.sheet.proofs.Filled.{filled-more}
 unfoldable pub prepended : List Pauli → Parsed (List Pauli) → Parsed (List Pauli)
 prepended read p = continue p (λ rows. done (read ++ rows))
 
--- Rows that are read one after the other, into an array with room for so many. `R count` reads what is left behind the first `count`.
-pub record Progress (room : ℕ) (R : ℕ → Reader (List Pauli)) (s : List ℕ) (rows : List Pauli) (count used : ℕ) : Type 0 where
+-- Rows that are read one after the other, into an array with room for so many. `R count` reads what is left behind the
+-- first `count`.
+pub record Progress (room : ℕ) (R : ℕ → Reader (List Pauli)) (s : List ℕ) (rows : List Pauli)
+    (count used : ℕ) : Type 0 where
   pub read : List Pauli
   pub held : rows ≡ filled room read
   pub counted : length read ≡ count
@@ -40,7 +42,13 @@ module _ (room : ℕ) (R : ℕ → Reader (List Pauli)) (s : List ℕ) where
   unfolding filled
   progress-start =
       let all : room ≡ room - 0 = omega arith in
-      record { read = []; held = ap (λ m. replicate m identity) all; counted = refl; within = omega arith; so-far = prepended-nothing (R 0 s) }
+      record {
+        read = [];
+        held = ap (λ m. replicate m identity) all;
+        counted = refl;
+        within = omega arith;
+        so-far = prepended-nothing (R 0 s);
+      }
 
   module _ {rows : List Pauli} {count used : ℕ} (h : Progress room R s rows count used) where
     -- a row is read
@@ -56,7 +64,8 @@ module _ (room : ℕ) (R : ℕ → Reader (List Pauli)) (s : List ℕ) where
           counted = omega (arith, length-append (h .read) (row ∷ []), h .counted);
           within = omega (arith, length-drop used s, h .within);
           so-far =
-              h .so-far ∙ ap (prepended (h .read)) e ∙ prepended-row (h .read) row (R (count + 1) (drop more (drop used s)))
+              h .so-far ∙ ap (prepended (h .read)) e
+              ∙ prepended-row (h .read) row (R (count + 1) (drop more (drop used s)))
               ∙ ap (λ rest. prepended (h .read ++ row ∷ []) (R (count + 1) rest)) (drop-drop more used s);
         }
 

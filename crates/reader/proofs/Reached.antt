@@ -31,20 +31,30 @@ pub record Reached {A : Type 0} (s : List ℕ) (end : ℕ) (value : A) (definiti
   pub gives : definition ≡ got value (drop end s)
 
 module _ {A : Type 0} {s : List ℕ} {answer : Lines} {value : A} {definition : Parsed A} where
-  pub reads-refused : {refusal : Refusal} → answer ≡ Lines.Refused refusal → definition ≡ stop refusal → Reads s answer value definition
+  pub reads-refused : {refusal : Refusal} → answer ≡ Lines.Refused refusal → definition ≡ stop refusal
+      → Reads s answer value definition
   reads-refused e f =
-      record { within = subst (λ a. usedIn a ≤ length s) (sym e) (omega arith); parses = ap (λ a. parsed s a value) e ∙ sym f }
+      record {
+        within = subst (λ a. usedIn a ≤ length s) (sym e) (omega arith);
+        parses = ap (λ a. parsed s a value) e ∙ sym f;
+      }
 
-  pub reads-read : {used : ℕ} → answer ≡ Lines.Read used → used ≤ length s → definition ≡ got value (drop used s) → Reads s answer value definition
+  pub reads-read : {used : ℕ} → answer ≡ Lines.Read used → used ≤ length s → definition ≡ got value (drop used s)
+      → Reads s answer value definition
   reads-read e h f =
       record { within = subst (λ a. usedIn a ≤ length s) (sym e) h; parses = ap (λ a. parsed s a value) e ∙ sym f }
 
   -- the definition's outcome, from the answer
-  pub was-read : {used : ℕ} → Reads s answer value definition → answer ≡ Lines.Read used → Reached s used value definition
+  pub was-read : {used : ℕ} → Reads s answer value definition → answer ≡ Lines.Read used
+      → Reached s used value definition
   was-read h e =
-      record { within = subst (λ a. usedIn a ≤ length s) e (h .within); gives = sym (h .parses) ∙ ap (λ a. parsed s a value) e }
+      record {
+        within = subst (λ a. usedIn a ≤ length s) e (h .within);
+        gives = sym (h .parses) ∙ ap (λ a. parsed s a value) e;
+      }
 
-  pub was-refused : {refusal : Refusal} → Reads s answer value definition → answer ≡ Lines.Refused refusal → definition ≡ stop refusal
+  pub was-refused : {refusal : Refusal} → Reads s answer value definition → answer ≡ Lines.Refused refusal
+      → definition ≡ stop refusal
   was-refused h e = sym (h .parses) ∙ ap (λ a. parsed s a value) e
 
   pub reads-as : {other : Parsed A} → definition ≡ other → Reads s answer value definition → Reads s answer value other
@@ -58,7 +68,8 @@ on-tail {answer = answer} {value = value} reader from s h =
     subst (λ t. Reads t answer value (reader t)) (tail-of from s) h
 
 -- One more line from a place on.
-pub reached-more : {A : Type 0} {answer : Lines} {value : A} {definition : Parsed A} {from more : ℕ} {s : List ℕ} → from ≤ length s
+pub reached-more : {A : Type 0} {answer : Lines} {value : A} {definition : Parsed A} {from more : ℕ} {s : List ℕ}
+    → from ≤ length s
     → Reads (drop from s) answer value definition → answer ≡ Lines.Read more → Reached s (from + more) value definition
 reached-more {value = value} {from = from} {more = more} {s = s} fits h e =
     let found = was-read h e in
@@ -71,7 +82,8 @@ reached-more {value = value} {from = from} {more = more} {s = s} fits h e =
 
 module _ {Stop : Refusal → Type 0} (s : List ℕ) where
   -- Where the bytes that were read are a text of the value, the rest begins behind it.
-  reads-of : {A : Type 0} {text : A → List ℕ} {Law : A → Type 0} {p : Parsed A} (other : A) → Outcome (Took text Law s) Stop p
+  reads-of : {A : Type 0} {text : A → List ℕ} {Law : A → Type 0} {p : Parsed A} (other : A)
+      → Outcome (Took text Law s) Stop p
       → Reads s (linesOf s p) (valueOr other p) p
   unfolding linesOf valueOr
   reads-of {text = text} other (gets {a} {rest} h) =
@@ -85,12 +97,14 @@ module _ {Stop : Refusal → Type 0} (s : List ℕ) where
       }
   reads-of other (stops h) = record { within = omega arith; parses = refl }
 
-  pub number-reads : {text : ℕ → List ℕ} {Law : ℕ → Type 0} {p : Parsed ℕ} {line : NumberLine} → Outcome (Took text Law s) Stop p
+  pub number-reads : {text : ℕ → List ℕ} {Law : ℕ → Type 0} {p : Parsed ℕ} {line : NumberLine}
+      → Outcome (Took text Law s) Stop p
       → line ≡ numberAnswer s p → Reads s (line .answer) (line .number) p
   unfolding numberAnswer
   number-reads {p = p} h e = subst (λ line. Reads s (line .answer) (line .number) p) (sym e) (reads-of 0 h)
 
-  pub row-reads : {text : Pauli → List ℕ} {Law : Pauli → Type 0} {p : Parsed Pauli} {line : RowLine} → Outcome (Took text Law s) Stop p
+  pub row-reads : {text : Pauli → List ℕ} {Law : Pauli → Type 0} {p : Parsed Pauli} {line : RowLine}
+      → Outcome (Took text Law s) Stop p
       → line ≡ rowAnswer s p → Reads s (line .answer) (line .row) p
   unfolding rowAnswer
   row-reads {p = p} h e = subst (λ line. Reads s (line .answer) (line .row) p) (sym e) (reads-of identity h)
@@ -98,12 +112,15 @@ module _ {Stop : Refusal → Type 0} (s : List ℕ) where
 -- The line of a row whose key is there, and the line of w.
 module _ (n at : ℕ) (s : List ℕ) {line : RowLine} (few : n ≤ mostQubits) where
   pub signed-row-reads : (family : Family) → begins (bytes (rowKey family)) s ≡ true
-      → line ≡ rowAnswer s (withinQubits n at (rowBehindKey n at) s) → Reads s (line .answer) (line .row) (rowLine (rowKey family) n at s)
+      → line ≡ rowAnswer s (withinQubits n at (rowBehindKey n at) s)
+      → Reads s (line .answer) (line .row) (rowLine (rowKey family) n at s)
   unfolding rowLine
   signed-row-reads family begun e =
       row-reads s
       (line-outcome (rowKey family) (n + 1) readRow (row-written n) {Stop = λ refusal. Unit {0}} (Refusal.Form at) s tt)
       (e ∙ ap (rowAnswer s) (few-qubits n at (rowBehindKey n at) s few ∙ sym (row-line-form family n at s begun)))
 
-  pub claim-reads : line ≡ rowAnswer s (withinQubits n at (claimLine n at) s) → Reads s (line .answer) (line .row) (claimLine n at s)
-  claim-reads e = row-reads s (claim-line-outcome n at s) (e ∙ ap (rowAnswer s) (few-qubits n at (claimLine n at) s few))
+  pub claim-reads : line ≡ rowAnswer s (withinQubits n at (claimLine n at) s)
+      → Reads s (line .answer) (line .row) (claimLine n at s)
+  claim-reads e =
+      row-reads s (claim-line-outcome n at s) (e ∙ ap (rowAnswer s) (few-qubits n at (claimLine n at) s few))

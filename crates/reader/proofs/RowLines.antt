@@ -1,8 +1,8 @@
--- The lines of rows as readers of what is left after some of them, and what the counts of the rows make of what was read.
+-- The lines of rows as readers of what is left after some of them, and what the counts of the rows make of what was
+-- read.
 use mathlib.Core.Bool.{true, false, cond, _||_}
 use mathlib.Core.List.{List, [], _∷_, _++_}
-use mathlib.Core.Logic.{_⊎_}
-use mathlib.Core.Path.{_≡_, refl, ap, sym, _∙_}
+use mathlib.Core.Path.{_≡_, refl, ap, _∙_}
 use Prim.Native.Nat.{ℕ, zero, suc, _+_, _-_, _<_, _≤_}
 use Prim.Native.String.{String}
 use native.Mathlib.Omega.{arith}
@@ -28,7 +28,8 @@ module _ {A B : Type 0} (f : A → B) where
   mapped-stop (got a s) e = absurd (let z : _≡_ {A = ℕ} 0 1 = cc in omega arith)
   mapped-stop (stop other) e = cc
 
-  pub mapped-got : {b : B} {rest : List ℕ} (p : Parsed A) → mapped f p ≡ got b rest → (a : A) × (p ≡ got a rest) × (f a ≡ b)
+  pub mapped-got : {b : B} {rest : List ℕ} (p : Parsed A) → mapped f p ≡ got b rest
+      → (a : A) × (p ≡ got a rest) × (f a ≡ b)
   unfolding mapped continue done
   mapped-got (got a s) e = (a, cc, cc)
   mapped-got (stop other) e = absurd (let z : _≡_ {A = ℕ} 0 1 = cc in omega arith)
@@ -80,10 +81,12 @@ module _ (key : String) (n most at : ℕ) where
         let next : at + count + 1 ≡ at + (count + 1) = omega arith in
         let line = rowLine key n (at + count) s in
         ap (λ m. rowsUpTo m key n (at + count) s) one
-        ∙ ap (λ b. cond b (continue line (behind (rowsUpTo (most - (count + 1)) key n (at + count + 1)))) (got [] s)) begun
+        ∙ ap (λ b. cond b (continue line (behind (rowsUpTo (most - (count + 1)) key n (at + count + 1))))
+        (got [] s)) begun
         ∙ ap (λ m. continue line (behind (rowsUpTo (most - (count + 1)) key n m))) next
 
-    pub rows-refused : {refusal : Refusal} → rowLine key n (at + count) s ≡ stop refusal → rowsLeft key n most at count s ≡ stop refusal
+    pub rows-refused : {refusal : Refusal} → rowLine key n (at + count) s ≡ stop refusal
+        → rowsLeft key n most at count s ≡ stop refusal
     rows-refused e = next-line ∙ then-stop (behind (rowsLeft key n most at (count + 1))) e
 
     pub rows-row : {row : Pauli} {rest : List ℕ} → rowLine key n (at + count) s ≡ got row rest
@@ -93,7 +96,8 @@ module _ (key : String) (n most at : ℕ) where
 -- ---- g lines
 
 module _ (n at : ℕ) (s : List ℕ) where
-  pub generators-refused : {refusal : Refusal} → rowsUpTo (mostGenerators n) "g=" n at s ≡ stop refusal → generatorLines n at s ≡ stop refusal
+  pub generators-refused : {refusal : Refusal} → rowsUpTo (mostGenerators n) "g=" n at s ≡ stop refusal
+      → generatorLines n at s ≡ stop refusal
   unfolding generatorLines
   generators-refused e = then-stop (countedGenerators at) e
 
@@ -103,14 +107,16 @@ module _ (n at : ℕ) (s : List ℕ) where
     unfolding generatorLines countedGenerators
     generators-miscounted e = then-got (countedGenerators at) read ∙ rw e
 
-    pub generators-counted : (eqb (length gs) 0 || begins (bytes "g=") rest) ≡ false → generatorLines n at s ≡ got gs rest
+    pub generators-counted : (eqb (length gs) 0 || begins (bytes "g=") rest) ≡ false
+        → generatorLines n at s ≡ got gs rest
     unfolding generatorLines countedGenerators
     generators-counted e = then-got (countedGenerators at) read ∙ rw e
 
 -- ---- x and z lines
 
 module _ (k : ℕ) (key : String) (n at : ℕ) (s : List ℕ) where
-  pub logicals-refused : {refusal : Refusal} → rowsUpTo k key n at s ≡ stop refusal → logicalLines k key n at s ≡ stop refusal
+  pub logicals-refused : {refusal : Refusal} → rowsUpTo k key n at s ≡ stop refusal
+      → logicalLines k key n at s ≡ stop refusal
   unfolding logicalLines
   logicals-refused e = then-stop (countedLogicals k at) e
 
@@ -129,7 +135,8 @@ take-replicate zero n P h = refl
 take-replicate (suc m) zero P h = absurd (omega arith)
 take-replicate (suc m) (suc n) P h = ap (λ rest. P ∷ rest) (take-replicate m n P (omega arith))
 
-pub shorter-room : (ls : List Pauli) → length ls ≤ logicalRoom → take logicalRoom (filled generatorRoom ls) ≡ filled logicalRoom ls
+pub shorter-room : (ls : List Pauli) → length ls ≤ logicalRoom
+    → take logicalRoom (filled generatorRoom ls) ≡ filled logicalRoom ls
 unfolding filled
 shorter-room ls h =
     let places : logicalRoom ≡ length ls + (logicalRoom - length ls) = omega arith in

@@ -6,13 +6,12 @@ use native.Mathlib.Omega.{arith}
 use lib.ListN.{length, take, drop, length-drop}
 use lib.Seq.{drop-drop}
 use Rattle.pauli.specs.declared.Pauli.{Pauli}
-use Rattle.sheet.specs.declared.Code.{Code}
 use Rattle.sheet.specs.declared.Lines.{Lines}
 use Rattle.sheet.specs.declared.LinesReading.{LinesReading}
 use Rattle.sheet.specs.declared.Refusal.{Refusal}
 use Rattle.sheet.specs.Reader.{Parsed, Reader, SheetRead, got, stop, done, continue, nothingBehind, answered}
 use Rattle.sheet.specs.Reader.{qubitLine, distanceLine, generatorLines, logicalLines, claimLine, linesAfter, sheetLines}
-use Rattle.sheet.specs.Record.{generatorRoom, logicalRoom, pairCount, filled, codeOf, firstGeneratorAt}
+use Rattle.sheet.specs.Record.{logicalRoom, pairCount, filled, codeOf, firstGeneratorAt}
 use Rattle.sheet.specs.Record.{logicalCount, generatorsAt, logicalsAt, claimAt}
 use Rattle.sheet.specs.Statements.{ReadIsLawful}
 use Rattle.sheet.proofs.Limits.{limits}
@@ -25,9 +24,12 @@ use Rattle.reader.proofs.RowLines.{mapped-stop, mapped-got}
 -- ---- the lines behind the g lines, with k pairs of logicals
 
 module _ (n d at : ℕ) (gs : List Pauli) (k : ℕ) (paired : pairCount n (length gs) ≡ k) (s : List ℕ) where
-  -- the readers that follow x, and z
+  -- what was read, and the readers that follow x, and z
+  abbrev sheet-of : ℕ → List Pauli → List Pauli → Pauli → Reader SheetRead
+  sheet-of m xs zs w = done (record { code = codeOf n d gs xs zs w; claimAt = at + 2 * m })
+
   abbrev with-w : List Pauli → List Pauli → Reader SheetRead
-  with-w xs zs t = continue (claimLine n (at + 2 * k) t) (λ w. done (record { code = codeOf n d gs xs zs w; claimAt = at + 2 * k }))
+  with-w xs zs t = continue (claimLine n (at + 2 * k) t) (sheet-of k xs zs)
 
   abbrev with-z : List Pauli → Reader SheetRead
   with-z xs t = continue (logicalLines k "z=" n (at + k) t) (with-w xs)
@@ -39,14 +41,15 @@ module _ (n d at : ℕ) (gs : List Pauli) (k : ℕ) (paired : pairCount n (lengt
       (λ m.
       continue (logicalLines m "x=" n at s) (λ xs t.
       continue (logicalLines m "z=" n (at + m) t) (λ zs u.
-      continue (claimLine n (at + 2 * m) u) (λ w. done (record { code = codeOf n d gs xs zs w; claimAt = at + 2 * m })))))
+      continue (claimLine n (at + 2 * m) u) (sheet-of m xs zs))))
       paired
 
   pub x-refused : {refusal : Refusal} → mapped (filled logicalRoom) (logicalLines k "x=" n at s) ≡ stop refusal
       → linesAfter n d at gs s ≡ stop refusal
   x-refused e = in-order ∙ then-stop with-z (mapped-stop (filled logicalRoom) _ e)
 
-  module _ {x-rows : List Pauli} {t : List ℕ} (x-read : mapped (filled logicalRoom) (logicalLines k "x=" n at s) ≡ got x-rows t) where
+  module _ {x-rows : List Pauli} {t : List ℕ}
+      (x-read : mapped (filled logicalRoom) (logicalLines k "x=" n at s) ≡ got x-rows t) where
     abbrev the-xs : (xs : List Pauli) × (logicalLines k "x=" n at s ≡ got xs t) × (filled logicalRoom xs ≡ x-rows)
     the-xs = mapped-got (filled logicalRoom) _ x-read
 
@@ -57,25 +60,31 @@ module _ (n d at : ℕ) (gs : List Pauli) (k : ℕ) (paired : pairCount n (lengt
         → linesAfter n d at gs s ≡ stop refusal
     z-refused e = to-z ∙ then-stop (with-w (the-xs .0)) (mapped-stop (filled logicalRoom) _ e)
 
-    module _ {z-rows : List Pauli} {u : List ℕ} (z-read : mapped (filled logicalRoom) (logicalLines k "z=" n (at + k) t) ≡ got z-rows u) where
-      abbrev the-zs : (zs : List Pauli) × (logicalLines k "z=" n (at + k) t ≡ got zs u) × (filled logicalRoom zs ≡ z-rows)
+    module _ {z-rows : List Pauli} {u : List ℕ}
+        (z-read : mapped (filled logicalRoom) (logicalLines k "z=" n (at + k) t) ≡ got z-rows u) where
+      abbrev the-zs : (zs : List Pauli) × (logicalLines k "z=" n (at + k) t ≡ got zs u)
+          × (filled logicalRoom zs ≡ z-rows)
       the-zs = mapped-got (filled logicalRoom) _ z-read
-
-      abbrev sheet-of : Pauli → Reader SheetRead
-      sheet-of w = done (record { code = codeOf n d gs (the-xs .0) (the-zs .0) w; claimAt = at + 2 * k })
 
       to-w : linesAfter n d at gs s ≡ with-w (the-xs .0) (the-zs .0) u
       to-w = to-z ∙ then-got (with-w (the-xs .0)) (the-zs .1)
 
-      pub w-refused : {refusal : Refusal} → claimLine n (at + 2 * k) u ≡ stop refusal → linesAfter n d at gs s ≡ stop refusal
-      w-refused e = to-w ∙ then-stop sheet-of e
+      pub w-refused : {refusal : Refusal} → claimLine n (at + 2 * k) u ≡ stop refusal
+          → linesAfter n d at gs s ≡ stop refusal
+      w-refused e = to-w ∙ then-stop (sheet-of k (the-xs .0) (the-zs .0)) e
 
-      pub w-read : {r : ℕ} {g-rows : List Pauli} {w : Pauli} {v : List ℕ} → countedRows gs ≡ (r, g-rows) → claimLine n (at + 2 * k) u ≡ got w v
+      pub w-read : {r : ℕ} {g-rows : List Pauli} {w : Pauli} {v : List ℕ} → countedRows gs ≡ (r, g-rows)
+          → claimLine n (at + 2 * k) u ≡ got w v
           → linesAfter n d at gs s
-          ≡ got (record { code = record { n = n; r = r; d = d; g = g-rows; x = x-rows; z = z-rows; w = w }; claimAt = at + 2 * k }) v
+          ≡ got
+          (record {
+            code = record { n = n; r = r; d = d; g = g-rows; x = x-rows; z = z-rows; w = w };
+            claimAt = at + 2 * k;
+          })
+          v
       unfolding done codeOf
       w-read {w = w} {v = v} held e =
-          to-w ∙ then-got sheet-of e
+          to-w ∙ then-got (sheet-of k (the-xs .0) (the-zs .0)) e
           ∙ (λ i.
           got
           (record {
@@ -109,11 +118,15 @@ module _ (s : List ℕ) where
       to-g : sheetLines s ≡ with-g n d u
       to-g = to-d ∙ then-got (with-g n) d-read
 
-      pub g-refused : {refusal : Refusal} → mapped countedRows (generatorLines n firstGeneratorAt u) ≡ stop refusal → sheetLines s ≡ stop refusal
-      g-refused e = to-g ∙ then-stop (λ gs. linesAfter n d (firstGeneratorAt + length gs) gs) (mapped-stop countedRows _ e)
+      pub g-refused : {refusal : Refusal} → mapped countedRows (generatorLines n firstGeneratorAt u) ≡ stop refusal
+          → sheetLines s ≡ stop refusal
+      g-refused e =
+          to-g ∙ then-stop (λ gs. linesAfter n d (firstGeneratorAt + length gs) gs) (mapped-stop countedRows _ e)
 
-      pub g-read : {held : ℕ × List Pauli} {v : List ℕ} → mapped countedRows (generatorLines n firstGeneratorAt u) ≡ got held v
-          → (gs : List Pauli) × (countedRows gs ≡ held) × (sheetLines s ≡ linesAfter n d (firstGeneratorAt + held .0) gs v)
+      pub g-read : {held : ℕ × List Pauli} {v : List ℕ}
+          → mapped countedRows (generatorLines n firstGeneratorAt u) ≡ got held v
+          → (gs : List Pauli) × (countedRows gs ≡ held)
+          × (sheetLines s ≡ linesAfter n d (firstGeneratorAt + held .0) gs v)
       g-read {v = v} e =
           let found = mapped-got countedRows _ e in (
             found .0,
@@ -125,18 +138,22 @@ module _ (s : List ℕ) where
 -- ---- what stands beside the answer
 
 module _ {s : List ℕ} {reading : LinesReading} {definition : Parsed SheetRead} where
-  pub sheet-refused : {answer : Lines} {refusal : Refusal} → reading ≡ emptyBeside answer → answer ≡ Lines.Refused refusal
+  pub sheet-refused : {answer : Lines} {refusal : Refusal} → reading ≡ emptyBeside answer
+      → answer ≡ Lines.Refused refusal
       → definition ≡ stop refusal → ReadsSheet s reading definition
   sheet-refused r a e =
       let b = ap (λ x. x .answer) r ∙ a in
       record { reads = reads-refused b e; whole = r ∙ ap emptyBeside a ∙ ap (λ x. beside x (readIn reading)) (sym b) }
 
-  pub sheet-read : {used : ℕ} → reading .answer ≡ Lines.Read used → used ≤ length s → definition ≡ got (readIn reading) (drop used s)
+  pub sheet-read : {used : ℕ} → reading .answer ≡ Lines.Read used → used ≤ length s
+      → definition ≡ got (readIn reading) (drop used s)
       → ReadsSheet s reading definition
   sheet-read a h e =
       record {
         reads = reads-read a h e;
-        whole = (λ i. record { answer = a i; «claim_at» = reading .«claim_at»; code = reading .code }) ∙ ap (λ x. beside x (readIn reading)) (sym a);
+        whole =
+            (λ i. record { answer = a i; «claim_at» = reading .«claim_at»; code = reading .code })
+            ∙ ap (λ x. beside x (readIn reading)) (sym a);
       }
 
 -- A reading of the bytes from a place on, as one of all bytes.
@@ -146,34 +163,40 @@ pub sheet-on-tail : {reading : LinesReading} (reader : Reader SheetRead) (from :
 sheet-on-tail {reading} reader from s h = subst (λ t. ReadsSheet t reading (reader t)) (tail-of from s) h
 
 module _
-    (from : ℕ) (s : List ℕ) {reading : LinesReading} {rest definition : Parsed SheetRead} (h : ReadsSheet (drop from s) reading rest)
+    (from : ℕ) (s : List ℕ) {reading : LinesReading} {rest definition : Parsed SheetRead}
+    (h : ReadsSheet (drop from s) reading rest)
     (e : definition ≡ rest) where
-  pub sheet-refused-behind : {refusal : Refusal} → reading .answer ≡ Lines.Refused refusal → ReadsSheet s reading definition
+  pub sheet-refused-behind : {refusal : Refusal} → reading .answer ≡ Lines.Refused refusal
+      → ReadsSheet s reading definition
   sheet-refused-behind a = record { reads = reads-refused a (e ∙ was-refused (h .reads) a); whole = h .whole }
 
   pub sheet-read-behind : {more : ℕ} → from ≤ length s → reading .answer ≡ Lines.Read more
-      → ReadsSheet s (record { answer = Lines.Read (from + more); «claim_at» = reading .«claim_at»; code = reading .code }) definition
+      → ReadsSheet s
+      (record { answer = Lines.Read (from + more); «claim_at» = reading .«claim_at»; code = reading .code }) definition
   sheet-read-behind {more} fits a =
       let found = was-read (h .reads) a in
       sheet-read refl (omega (arith, found .within, length-drop from s))
       (e ∙ found .gives ∙ ap (got (readIn reading)) (drop-drop more from s))
 
 -- So the reading is the definition's.
-pub is-answered : {s : List ℕ} {reading : LinesReading} {definition : Parsed SheetRead} → ReadsSheet s reading definition
+pub is-answered : {s : List ℕ} {reading : LinesReading} {definition : Parsed SheetRead}
+    → ReadsSheet s reading definition
     → reading ≡ answered s definition
 unfolding answered
 is-answered {s} {reading} {definition} h = h .whole ∙ by-answer (reading .answer) (readIn reading) (h .reads)
   where
     by-answer : (answer : Lines) (q : SheetRead) → Reads s answer q definition → beside answer q ≡ answered s definition
     by-answer (Lines.Read used) q p =
-        ap (λ m. record { answer = Lines.Read m; «claim_at» = q .claimAt; code = q .code }) (bytes-used s used (p .within))
+        ap (λ m. record { answer = Lines.Read m; «claim_at» = q .claimAt; code = q .code })
+        (bytes-used s used (p .within))
         ∙ ap (answered s) (p .parses)
     by-answer (Lines.Refused refusal) q p = ap (answered s) (p .parses)
 
 -- ---- a sheet by itself
 
 -- The line of w is one of few.
-pub claim-near : (s : List ℕ) (p : Parsed SheetRead) → ((q : SheetRead) (rest : List ℕ) → p ≡ got q rest → ReadIsLawful q)
+pub claim-near : (s : List ℕ) (p : Parsed SheetRead)
+    → ((q : SheetRead) (rest : List ℕ) → p ≡ got q rest → ReadIsLawful q)
     → (answered s p) .«claim_at» < 100
 unfolding answered claimAt logicalsAt generatorsAt logicalCount pairCount
 claim-near s (got q rest) lawful =
@@ -182,7 +205,8 @@ claim-near s (got q rest) lawful =
 claim-near s (stop refusal) lawful = omega arith
 
 module _ (s : List ℕ) (reading : LinesReading) where
-  pub form-refused : {refusal : Refusal} (p : Parsed SheetRead) → reading ≡ answered s p → reading .answer ≡ Lines.Refused refusal
+  pub form-refused : {refusal : Refusal} (p : Parsed SheetRead) → reading ≡ answered s p
+      → reading .answer ≡ Lines.Refused refusal
       → reading ≡ answered s (continue p nothingBehind)
   unfolding answered continue
   form-refused (got q rest) e a = absurd (let z : _≡_ {A = ℕ} 0 1 = cc (ap (λ x. x .answer) e) in omega arith)
@@ -193,13 +217,16 @@ module _ (s : List ℕ) (reading : LinesReading) where
         → emptyBeside (Lines.Refused (Refusal.Form (reading .«claim_at» + 1))) ≡ answered s (continue p nothingBehind)
     unfolding answered continue nothingBehind
     form-behind (got q []) e h = let z : used ≡ length s - 0 = cc (ap (λ x. x .answer) e) in absurd (omega arith)
-    form-behind (got q (b ∷ rest)) e h = ap (λ m. emptyBeside (Lines.Refused (Refusal.Form (m + 1)))) (ap (λ x. x .«claim_at») e)
+    form-behind (got q (b ∷ rest)) e h =
+        ap (λ m. emptyBeside (Lines.Refused (Refusal.Form (m + 1)))) (ap (λ x. x .«claim_at») e)
     form-behind (stop refusal) e h = absurd (let z : _≡_ {A = ℕ} 0 1 = cc (ap (λ x. x .answer) e) in omega arith)
 
-    pub form-whole : (p : Parsed SheetRead) → reading ≡ answered s p → length s ≤ used → ((q : SheetRead) (rest : List ℕ) → p ≡ got q rest → length rest ≤ length s)
+    pub form-whole : (p : Parsed SheetRead) → reading ≡ answered s p → length s ≤ used
+        → ((q : SheetRead) (rest : List ℕ) → p ≡ got q rest → length rest ≤ length s)
         → reading ≡ answered s (continue p nothingBehind)
     unfolding answered continue nothingBehind
     form-whole (got q []) e h fits = e
     form-whole (got q (b ∷ rest)) e h fits =
-        let z : used ≡ length s - suc (length rest) = cc (ap (λ x. x .answer) e) in absurd (omega (arith, fits q (b ∷ rest) refl))
+        let z : used ≡ length s - suc (length rest) = cc (ap (λ x. x .answer) e) in absurd
+        (omega (arith, fits q (b ∷ rest) refl))
     form-whole (stop refusal) e h fits = absurd (let z : _≡_ {A = ℕ} 0 1 = cc (ap (λ x. x .answer) e) in omega arith)

@@ -1,4 +1,4 @@
--- What the private readers answer, in the terms of the definitions. The calls that are public cite `sheet`'s definitions alone.
+-- What the private readers answer, in the terms of the definitions. The public calls cite `sheet`'s definitions alone.
 use mathlib.Core.List.{List}
 use mathlib.Core.Path.{_≡_}
 use Prim.Native.Nat.{ℕ, _≤_}
@@ -7,7 +7,9 @@ use Rattle.pauli.specs.declared.Pauli.{Pauli}
 use Rattle.sheet.specs.declared.Lines.{Lines}
 use Rattle.sheet.specs.declared.LinesReading.{LinesReading}
 use Rattle.sheet.specs.Reader.{Parsed, SheetRead, got, stop, done, continue}
-use Rattle.sheet.specs.Record.{generatorRoom, filled, emptyCode}
+use Rattle.sheet.specs.Record.{generatorRoom, logicalRoom, filled, emptyCode}
+use Rattle.reader.specs.declared.Rows.{Rows}
+use Rattle.reader.specs.declared.Logicals.{Logicals}
 
 -- How many bytes were read.
 abbrev pub usedIn : Lines → ℕ
@@ -24,12 +26,19 @@ pub record Reads {A : Type 0} (s : List ℕ) (answer : Lines) (value : A) (defin
   pub within : usedIn answer ≤ length s
   pub parses : parsed s answer value ≡ definition
 
--- What was read, in the shape in which the code holds it: rows in an array with +I behind them, and their count.
+-- What was read, in the shape in which the code holds it: rows in an array with +I behind them, and the count of those
+-- that may be of any number.
 unfoldable pub mapped : {A B : Type 0} → (A → B) → Parsed A → Parsed B
 mapped f p = continue p (λ a. done (f a))
 
 abbrev pub countedRows : List Pauli → ℕ × List Pauli
 countedRows rows = (length rows, filled generatorRoom rows)
+
+abbrev pub ReadsRows : List ℕ → Rows → Parsed (List Pauli) → Type 0
+ReadsRows s r definition = Reads s (r .answer) (r .count, r .rows) (mapped countedRows definition)
+
+abbrev pub ReadsLogicals : List ℕ → Logicals → Parsed (List Pauli) → Type 0
+ReadsLogicals s r definition = Reads s (r .answer) (r .rows) (mapped (filled logicalRoom) definition)
 
 -- What stands beside the answer for a whole sheet: the line of w and the record; nothing where it is a refusal.
 abbrev pub emptyBeside : Lines → LinesReading
@@ -45,3 +54,8 @@ readIn reading = record { code = reading .code; claimAt = reading .«claim_at» 
 pub record ReadsSheet (s : List ℕ) (reading : LinesReading) (definition : Parsed SheetRead) : Type 0 where
   pub reads : Reads s (reading .answer) (readIn reading) definition
   pub whole : reading ≡ beside (reading .answer) (readIn reading)
+
+-- The lines behind the g lines, for whichever rows the array holds.
+abbrev pub ReadsAfter : List ℕ → Rows → (List Pauli → Parsed SheetRead) → LinesReading → Type 0
+ReadsAfter s generators definition reading =
+    (gs : List Pauli) → countedRows gs ≡ (generators .count, generators .rows) → ReadsSheet s reading (definition gs)

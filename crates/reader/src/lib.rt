@@ -1,5 +1,5 @@
-// The reader of a sheet: its lines in their order. Each reader is lent the bytes that remain, and answers how many of them it took, or the
-// refusal that ends the reading.
+// The reader of a sheet: its lines in their order. Each reader is lent the bytes that remain, and answers how many of
+// them it took, or the refusal that ends the reading.
 use pauli::Pauli;
 use sheet::Code;
 use sheet::FIRST_GENERATOR_AT;
@@ -11,14 +11,12 @@ use sheet::Lines;
 use sheet::LinesReading;
 use sheet::Refusal;
 ghost use mathlib.Core.Path.{_≡_};
-ghost use mathlib.Core.List.{List};
-ghost use Prim.Native.Nat.{ℕ, _+_, _≤_, _<_};
-ghost use lib.ListN.{length, take};
-ghost use Rattle.pauli.specs.declared.Pauli.{Pauli};
-ghost use Rattle.sheet.specs.Record.{mostQubits, logicalRoom, generatorRoom, mostGenerators, firstGeneratorAt, filled, rowKey};
+ghost use Prim.Native.Nat.{_≤_, _<_};
+ghost use lib.ListN.{take};
+ghost use Rattle.sheet.specs.Record.{mostQubits, logicalRoom, mostGenerators, firstGeneratorAt, rowKey};
 ghost use Rattle.sheet.specs.Reader.{rowsUpTo, generatorLines, logicalLines, linesAfter, sheetLines};
 ghost use Rattle.sheet.specs.Reader.{linesReading, formReading, behind};
-ghost use Rattle.reader.specs.Answers.{Reads, mapped, countedRows, emptyBeside, ReadsSheet};
+ghost use Rattle.reader.specs.Answers.{ReadsRows, ReadsLogicals, emptyBeside, ReadsSheet, ReadsAfter};
 
 // The rows that lines one after the other have: the answer of their reader, how many there are, and the rows.
 struct Rows {
@@ -33,7 +31,7 @@ fn rows_up_to(s: &[u8], family: Family, most: usize, n: usize, at: usize) -> Row
     requires { ⌜ n ≤ mostQubits ⌝ }
     requires { ⌜ at < 100 ⌝ }
     ensures { λ r. ⌜ r .count ≤ most ⌝ }
-    ensures { λ r. ⌜ Reads (now (s .entry)) (r .answer) (r .count, r .rows) (mapped countedRows (rowsUpTo most (rowKey family) n at (now (s .entry)))) ⌝ }
+    ensures { λ r. ⌜ ReadsRows (now (s .entry)) r (rowsUpTo most (rowKey family) n at (now (s .entry))) ⌝ }
 {
     let one = Pauli::identity();
     let mut rows = [one; GENERATOR_ROOM];
@@ -65,7 +63,7 @@ fn rows_up_to(s: &[u8], family: Family, most: usize, n: usize, at: usize) -> Row
 fn generator_lines(s: &[u8], n: usize) -> Rows
     requires { ⌜ n ≤ mostQubits ⌝ }
     ensures { λ r. ⌜ r .count ≤ mostGenerators n ⌝ }
-    ensures { λ r. ⌜ Reads (now (s .entry)) (r .answer) (r .count, r .rows) (mapped countedRows (generatorLines n firstGeneratorAt (now (s .entry)))) ⌝ }
+    ensures { λ r. ⌜ ReadsRows (now (s .entry)) r (generatorLines n firstGeneratorAt (now (s .entry))) ⌝ }
 {
     let generators = rows_up_to(
         s,
@@ -114,7 +112,7 @@ fn logical_lines(s: &[u8], family: Family, n: usize, k: usize, at: usize) -> Log
     requires { ⌜ n ≤ mostQubits ⌝ }
     requires { ⌜ k ≤ mostQubits ⌝ }
     requires { ⌜ at < 100 ⌝ }
-    ensures { λ r. ⌜ Reads (now (s .entry)) (r .answer) (r .rows) (mapped (filled logicalRoom) (logicalLines k (rowKey family) n at (now (s .entry)))) ⌝ }
+    ensures { λ r. ⌜ ReadsLogicals (now (s .entry)) r (logicalLines k (rowKey family) n at (now (s .entry))) ⌝ }
 {
     let logicals = rows_up_to(s, family, k, n, at);
     let read = logicals.rows;
@@ -148,7 +146,7 @@ fn refused(answer: Lines) -> LinesReading
 fn lines_after(s: &[u8], n: usize, d: usize, at: usize, generators: Rows) -> LinesReading
     requires { ⌜ n ≤ mostQubits ⌝ }
     requires { ⌜ at < 50 ⌝ }
-    ensures { λ q. ⌜ ((gs : List Pauli) → countedRows gs ≡ (generators .count, generators .rows) → ReadsSheet (now (s .entry)) q (linesAfter n d at gs (now (s .entry)))) ⌝ }
+    ensures { λ q. ⌜ ReadsAfter (now (s .entry)) generators (λ gs. linesAfter n d at gs (now (s .entry))) q ⌝ }
 {
     let r = generators.count;
     let k = sheet::pair_count(n, r);

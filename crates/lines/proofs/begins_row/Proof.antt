@@ -23,17 +23,20 @@ returns-3 c =
 
 returns-4 : tie.Need-returns-4
 returns-4 c =
-    row-begins _ (c .before .before .before .before .line-kind .ensures) Family.Generator (c .before .before .enum-told .given .1)
+    row-begins _ (c .before .before .before .before .line-kind .ensures) Family.Generator
+    (c .before .before .enum-told .given .1)
     (c .enum-told2 .given .1)
 
 returns-5 : tie.Need-returns-5
 returns-5 c =
-    row-begins _ (c .before .before .before .before .line-kind .ensures) Family.LogicalX (c .before .before .enum-told3 .given .1)
+    row-begins _ (c .before .before .before .before .line-kind .ensures) Family.LogicalX
+    (c .before .before .enum-told3 .given .1)
     (c .enum-told4 .given .1)
 
 returns-6 : tie.Need-returns-6
 returns-6 c =
-    row-begins _ (c .before .before .before .before .line-kind .ensures) Family.LogicalZ (c .before .before .enum-told5 .given .1)
+    row-begins _ (c .before .before .before .before .line-kind .ensures) Family.LogicalZ
+    (c .before .before .enum-told5 .given .1)
     (c .enum-told6 .given .1)
 
 pub begins-row-spec : {M : Type 1} → statement M

@@ -15,7 +15,8 @@ use Rattle.lines.specs.declared.LineKind.{LineKind}
 use Rattle.lines.specs.declared.RowLine.{RowLine}
 use Rattle.lines.specs.Answers.{keyOf, rowIn, withinQubits, rowAnswer}
 use Rattle.lines.proofs.Keys.{other-kind}
-use Rattle.lines.proofs.Lines.{line-of-kind, line-of-other, line-off-form, line-no-value, line-value, line-within, claim-line-form}
+use Rattle.lines.proofs.Lines.{line-of-kind, line-of-other, line-off-form, line-no-value, line-value}
+use Rattle.lines.proofs.Lines.{line-within, claim-line-form}
 use Rattle.lines.proofs.Lines.{part-of, part-length, few-qubits, many-qubits}
 use Rattle.lines.proofs.Reading.{row-read}
 use Rattle.lines.proofs.claim_line.Statement.{statement}
@@ -40,21 +41,24 @@ abbrev behind-key : tie.Start → Parsed Pauli
 behind-key c = lineOf (keyOf (s c)) (n c) readLetters (Refusal.Form (c .args .at)) (s c)
 
 keyed : (c : tie.After-enum-told) → {r : RowLine} → r ≡ rowAnswer (s (start c)) (behind-key (start c))
-    → r ≡ rowAnswer (s (start c)) (withinQubits (n (start c)) (start c .args .at) (claimLine (n (start c)) (start c .args .at)) (s (start c)))
+    → r ≡ rowAnswer (s (start c))
+    (withinQubits (n (start c)) (start c .args .at) (claimLine (n (start c)) (start c .args .at)) (s (start c)))
 keyed c e =
     gives (start c) (search needs)
     (e
     ∙ ap (rowAnswer (s (start c)))
     (sym
     (claim-line-form (n (start c)) (start c .args .at) (s (start c))
-    ∙ line-of-kind LineKind.Claim (n (start c)) readLetters (Refusal.Form (start c .args .at)) (s (start c)) (omega arith)
+    ∙ line-of-kind LineKind.Claim (n (start c)) readLetters (Refusal.Form (start c .args .at)) (s (start c))
+    (omega arith)
     (sym (c .before .before .line-kind .ensures) ∙ c .enum-told .given .1))))
 
 -- the form, as it was tested behind the key
 abbrev key-of-form : tie.Else2 → tie.After-enum-told
 key-of-form c = c .before .before
 
-formed : (c : tie.Else2) → isLine (keyOf (s (start (key-of-form c)))) (n (start (key-of-form c))) (s (start (key-of-form c))) ≡ true
+formed : (c : tie.Else2)
+    → isLine (keyOf (s (start (key-of-form c)))) (n (start (key-of-form c))) (s (start (key-of-form c))) ≡ true
 formed c = sym (c .before .is-line .ensures) ∙ not-false _ (c .if2 .left)
 
 within : (c : tie.Else2) → n (start (key-of-form c)) + 3 ≤ length (s (start (key-of-form c)))
@@ -68,7 +72,8 @@ start-of-value c = start (key-of-form (form-of-value c))
 
 value-read : (c : tie.After-read-letters)
     → readLetters (take (n (start-of-value c)) (drop 2 (s (start-of-value c)))) ≡ rowIn (c .read-letters .result)
-value-read c = ap readLetters (sym (part-of 2 (n (start-of-value c)) (s (start-of-value c)))) ∙ sym (c .read-letters .ensures)
+value-read c =
+    ap readLetters (sym (part-of 2 (n (start-of-value c)) (s (start-of-value c)))) ∙ sym (c .read-letters .ensures)
 
 returns : tie.Need-returns
 returns c = c .refused .ensures _ ∙ ap (rowAnswer _) (sym (many-qubits _ _ _ _ (c .before .if1 .taken)))
@@ -89,7 +94,8 @@ returns-3 c =
     let found = c .before .before in
     keyed (found .before)
     (c .refused3 .ensures _
-    ∙ ap (rowAnswer _) (sym (line-off-form _ _ _ _ (sym (found .is-line .ensures) ∙ not-true _ (c .before .if2 .taken)))))
+    ∙ ap (rowAnswer _) (sym (line-off-form _ _ _ _ (sym (found .is-line .ensures)
+    ∙ not-true _ (c .before .if2 .taken)))))
 
 part-read-letters-end : tie.Need-part-read-letters-end
 part-read-letters-end c = omega (arith, within c)
@@ -105,7 +111,8 @@ returns-4 c =
     keyed (key-of-form (form-of-value found))
     (c .refused4 .ensures _
     ∙ ap (rowAnswer _)
-    (sym (line-no-value _ _ _ _ (formed (form-of-value found)) (value-read found ∙ ap rowIn (c .before .enum-told2 .given .1)))))
+    (sym (line-no-value _ _ _ _ (formed (form-of-value found)) (value-read found
+    ∙ ap rowIn (c .before .enum-told2 .given .1)))))
 
 returns-5 : tie.Need-returns-5
 returns-5 c =

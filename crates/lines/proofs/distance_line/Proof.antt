@@ -1,5 +1,5 @@
 -- The key, the number's form, and then its range.
-use mathlib.Core.Path.{_≡_, ap, sym, _∙_}
+use mathlib.Core.Path.{ap, sym, _∙_}
 use native.Mathlib.Omega.{arith}
 use borrow.Author.Needs.{needs}
 use Rattle.lines.specs.declared.LineKind.{LineKind}
@@ -17,14 +17,16 @@ returns c =
     ∙ ap (numberAnswer _)
     (sym
     (distance-line-form _
-    ∙ then-stop _ (line-of-other LineKind.Distance _ _ _ _ (λ e. other-kind LineKind.Distance (c .before .match .keys2) (told ∙ e)))))
+    ∙ then-stop _
+    (line-of-other LineKind.Distance _ _ _ _ (λ e. other-kind LineKind.Distance (c .before .match .keys2) (told ∙ e)))))
 
 returns-2 : tie.Need-returns-2
 returns-2 c =
     let kind = c .before .before in
     let told = sym (kind .before .before .line-kind .ensures) ∙ kind .enum-told .given .1 in
     c .in-range .ensures _ _
-    (c .before .number-line .ensures ∙ ap (numberAnswer _) (sym (line-of-kind LineKind.Distance _ _ _ _ (omega arith) told)))
+    (c .before .number-line .ensures
+    ∙ ap (numberAnswer _) (sym (line-of-kind LineKind.Distance _ _ _ _ (omega arith) told)))
     ∙ ap (numberAnswer _) (sym (distance-line-form _))
 
 pub distance-line-spec : {M : Type 1} → statement M

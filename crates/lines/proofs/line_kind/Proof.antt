@@ -9,7 +9,8 @@ use lib.Dec.{eqb}
 use lib.ListN.{getD, List·getD-eq-default}
 use Rattle.pauli.specs.Lists.{firstOf, readByte}
 use Rattle.pauli.proofs.Lists.{readByte-skip}
-use Rattle.lines.specs.declared.LineKind.the-variants.{Qubits, Distance, Generator, LogicalX, LogicalZ, Claim, Other}
+use Rattle.lines.specs.declared.LineKind.the-variants.{Qubits, Distance, Generator, LogicalX, LogicalZ, Claim}
+use Rattle.lines.specs.declared.LineKind.the-variants.{Other}
 use Rattle.lines.specs.LineKinds.{kindByte, orOther, kindOf, lineKind}
 use Rattle.lines.proofs.line_kind.Statement.{statement}
 use Rattle.lines.proofs.line_kind.Tie as tie
@@ -64,7 +65,8 @@ returns-9 c =
     let key = getD (s (c .before)) 0 0 in
     ap orOther
     (sym
-    (readByte-skip kindByte Qubits (Distance ∷ Generator ∷ LogicalX ∷ LogicalZ ∷ Claim ∷ []) key (c .match .rest .0 .0 .0 .0 .0 .1)
+    (readByte-skip kindByte Qubits (Distance ∷ Generator ∷ LogicalX ∷ LogicalZ ∷ Claim ∷ []) key
+    (c .match .rest .0 .0 .0 .0 .0 .1)
     ∙ readByte-skip kindByte Distance (Generator ∷ LogicalX ∷ LogicalZ ∷ Claim ∷ []) key (c .match .rest .0 .0 .0 .0 .1)
     ∙ readByte-skip kindByte Generator (LogicalX ∷ LogicalZ ∷ Claim ∷ []) key (c .match .rest .0 .0 .0 .1)
     ∙ readByte-skip kindByte LogicalX (LogicalZ ∷ Claim ∷ []) key (c .match .rest .0 .0 .1)

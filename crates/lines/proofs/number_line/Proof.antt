@@ -30,9 +30,11 @@ abbrev behind-form : tie.After-read-number → tie.Else1
 behind-form c = c .before .before
 
 value-read : (c : tie.After-read-number)
-    → readNumber (take (start (behind-form c) .args .digits) (drop 2 (s (start (behind-form c))))) ≡ numberIn (c .read-number .result)
+    → readNumber (take (start (behind-form c) .args .digits) (drop 2 (s (start (behind-form c))))) ≡ numberIn
+    (c .read-number .result)
 value-read c =
-    ap readNumber (sym (part-of 2 (start (behind-form c) .args .digits) (s (start (behind-form c))))) ∙ sym (c .read-number .ensures)
+    ap readNumber (sym (part-of 2 (start (behind-form c) .args .digits) (s (start (behind-form c)))))
+    ∙ sym (c .read-number .ensures)
 
 returns : tie.Need-returns
 returns c =
@@ -54,7 +56,8 @@ returns-2 c =
     let found = c .before .before .before in
     c .refused2 .ensures _
     ∙ ap (numberAnswer _)
-    (sym (line-no-value _ _ _ _ (formed (behind-form found)) (value-read found ∙ ap numberIn (c .before .enum-told .given .1))))
+    (sym (line-no-value _ _ _ _ (formed (behind-form found)) (value-read found
+    ∙ ap numberIn (c .before .enum-told .given .1))))
 
 returns-3 : tie.Need-returns-3
 returns-3 c =

@@ -18,7 +18,8 @@ returns-2 : tie.Need-returns-2
 unfolding qubitDigits lineFeed
 returns-2 c =
     ⊎-elim (λ w. ap (λ b. cond b 1 2) (sym (w .2 .left)))
-    (λ w. ap (λ x. cond (eqb x 10) 1 2) (sym (List·getD-eq-default (c .before .args .s .now) 0 (w .left)))) (c .if1 .came)
+    (λ w. ap (λ x. cond (eqb x 10) 1 2) (sym (List·getD-eq-default (c .before .args .s .now) 0 (w .left))))
+    (c .if1 .came)
 
 pub qubit-digits-spec : {M : Type 1} → statement M
 qubit-digits-spec = tie.close (tie.spec (λ c. search needs) returns returns-2)

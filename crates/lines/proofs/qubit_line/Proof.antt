@@ -1,5 +1,5 @@
 -- The key, the number's form, of one or two digits, and then its range.
-use mathlib.Core.Path.{_≡_, ap, sym, _∙_}
+use mathlib.Core.Path.{ap, sym, _∙_}
 use native.Mathlib.Omega.{arith}
 use borrow.Author.Needs.{needs}
 use Rattle.sheet.specs.Reader.{qubitDigits}
@@ -18,7 +18,8 @@ returns c =
     ∙ ap (numberAnswer _)
     (sym
     (qubit-line-form _
-    ∙ then-stop _ (line-of-other LineKind.Qubits _ _ _ _ (λ e. other-kind LineKind.Qubits (c .before .match .keys2) (told ∙ e)))))
+    ∙ then-stop _
+    (line-of-other LineKind.Qubits _ _ _ _ (λ e. other-kind LineKind.Qubits (c .before .match .keys2) (told ∙ e)))))
 
 number-line-requires : tie.Need-number-line-requires
 number-line-requires c κs =

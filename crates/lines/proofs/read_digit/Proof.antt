@@ -8,7 +8,9 @@ use Rattle.lines.proofs.read_digit.Statement.{statement}
 use Rattle.lines.proofs.read_digit.Tie as tie
 
 returns : tie.Need-returns
-returns c = sym (not-a-digit (c .before .args .c) (⊎-elim (λ w. inl (w .taken)) (λ w. inr (ltb-true _ _ (w .1 .taken))) (c .if1 .came)))
+returns c =
+    sym (not-a-digit (c .before .args .c)
+    (⊎-elim (λ w. inl (w .taken)) (λ w. inr (ltb-true _ _ (w .1 .taken))) (c .if1 .came)))
 
 returns-2 : tie.Need-returns-2
 returns-2 c = sym (a-digit (c .before .before .args .c) (c .before .if1 .left) (ltb-false _ _ (c .if2 .left)))

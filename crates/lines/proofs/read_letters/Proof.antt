@@ -33,14 +33,16 @@ small c = letters-small (word c) (c .loop .place) (c .loop .a) (c .loop .b) (c .
 abbrev read-at : tie.After-read Inv-loop μ-loop → At
 read-at c = c .before .before .before
 
-letter-is : (c : tie.After-read Inv-loop μ-loop) → readLetter (getD (word (read-at c)) (read-at c .loop .place - 1) 0) ≡ letterIn (c .read .result)
+letter-is : (c : tie.After-read Inv-loop μ-loop)
+    → readLetter (getD (word (read-at c)) (read-at c .loop .place - 1) 0) ≡ letterIn (c .read .result)
 letter-is c = sym (c .read .ensures)
 
 abbrev letter-at : tie.After-letter Inv-loop μ-loop → At
 letter-at c = read-at (c .before .before)
 
 -- the masks with it
-more : (c : tie.After-letter Inv-loop μ-loop) (x z : ℕ) → x ≡ xBit (c .letter .given .0 .0) → z ≡ zBit (c .letter .given .0 .0)
+more : (c : tie.After-letter Inv-loop μ-loop) (x z : ℕ) → x ≡ xBit (c .letter .given .0 .0)
+    → z ≡ zBit (c .letter .given .0 .0)
     → readLetters (drop (letter-at c .loop .place - 1) (word (letter-at c)))
     ≡ some (rowOf Plus (x + 2 * letter-at c .loop .a) (z + 2 * letter-at c .loop .b))
 more c x z p q =
@@ -49,10 +51,12 @@ more c x z p q =
     (c .before .before .before .before .loop-test .taken) (behind .loop .inv .0) (behind .loop .inv .1)
     (letter-is (c .before .before) ∙ ap letterIn (c .letter .given .1)) p q
 
-more-small : (c : tie.After-letter Inv-loop μ-loop) (x z : ℕ) → x ≡ xBit (c .letter .given .0 .0) → z ≡ zBit (c .letter .given .0 .0)
+more-small : (c : tie.After-letter Inv-loop μ-loop) (x z : ℕ) → x ≡ xBit (c .letter .given .0 .0)
+    → z ≡ zBit (c .letter .given .0 .0)
     → (x + 2 * letter-at c .loop .a < 2 ^ 24) × (z + 2 * letter-at c .loop .b < 2 ^ 24)
 more-small c x z p q =
-    let behind = letter-at c in letters-small (word behind) (behind .loop .place - 1) _ _ (behind .before .before .pre) (more c x z p q)
+    let behind = letter-at c in letters-small (word behind) (behind .loop .place - 1) _ _ (behind .before .before .pre)
+    (more c x z p q)
 
 loop-holds : tie.Need-loop-holds Inv-loop μ-loop
 unfolding readLetters readEach ofLetters signedRow xMask zMask maskOf
@@ -61,7 +65,8 @@ loop-holds c = (search needs, ap readLetters (drop-length (c .before .args .word
 returns : tie.Need-returns Inv-loop μ-loop
 returns c =
     let found = c .before .before in
-    sym (no-letter (word (read-at found)) (read-at found .loop .place - 1) (search needs) (letter-is found ∙ ap letterIn (c .enum-told .given .1)))
+    sym (no-letter (word (read-at found)) (read-at found .loop .place - 1) (search needs) (letter-is found
+    ∙ ap letterIn (c .enum-told .given .1)))
 
 mul-a : tie.Need-mul-a Inv-loop μ-loop
 mul-a c = omega (arith, small (letter-at (c .before .before)))

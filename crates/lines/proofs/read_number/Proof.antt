@@ -33,10 +33,13 @@ second-is c = sym (c .before .before .read-digit2 .ensures) ∙ ap numberIn (c .
 returns : tie.Need-returns
 returns c =
     let found = c .before .before in
-    sym (no-first-digit (word found) (search needs) (sym (found .read-digit .ensures) ∙ ap numberIn (c .enum-told .given .1)))
+    sym (no-first-digit (word found) (search needs) (sym (found .read-digit .ensures)
+    ∙ ap numberIn (c .enum-told .given .1)))
 
 returns-2 : tie.Need-returns-2
-returns-2 c = let found = c .before .before in sym (zero-first (word (found .before .before)) (search needs) (first-is found ∙ ap some (c .if1 .taken)))
+returns-2 c =
+    let found = c .before .before in sym (zero-first (word (found .before .before)) (search needs) (first-is found
+    ∙ ap some (c .if1 .taken)))
 
 returns-3 : tie.Need-returns-3
 returns-3 c =
@@ -47,20 +50,28 @@ returns-4 : tie.Need-returns-4
 returns-4 c =
     let found = c .before .before in
     sym
-    (no-second-digit (first (first-at found)) (found .before .before .before .if1 .left) (word-at found) (search needs) (first-is (first-at found))
+    (no-second-digit (first (first-at found)) (found .before .before .before .if1 .left) (word-at found) (search needs)
+    (first-is (first-at found))
     (sym (found .read-digit2 .ensures) ∙ ap numberIn (c .enum-told2 .given .1)))
 
 mul-t8 : tie.Need-mul-t8
 mul-t8 c = omega (arith, digit-small _ _ (first-is (first-at (c .before .before .before))))
 
 add-t11 : tie.Need-add-t11
-add-t11 c = omega (arith, digit-small _ _ (first-is (first-at (c .before .before .before))), digit-small _ _ (second-is (c .before)))
+add-t11 c =
+    omega (
+      arith,
+      digit-small _ _ (first-is (first-at (c .before .before .before))),
+      digit-small _ _
+          (second-is (c .before)),
+    )
 
 returns-5 : tie.Need-returns-5
 returns-5 c =
     let found = c .before .before .before in
     sym
-    (two-digits (first (first-at found)) (found .before .before .before .if1 .left) (word-at found) (c .before .second .given .0 .0) (search needs)
+    (two-digits (first (first-at found)) (found .before .before .before .if1 .left) (word-at found)
+    (c .before .second .given .0 .0) (search needs)
     (first-is (first-at found)) (second-is (c .before)))
 
 pub read-number-spec : {M : Type 1} → statement M

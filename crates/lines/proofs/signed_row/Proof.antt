@@ -10,9 +10,8 @@ use lib.ListN.{length, take, drop, getD}
 use Rattle.pauli.specs.declared.Pauli.{Pauli}
 use Rattle.pauli.specs.Letters.{signIn, readSign}
 use Rattle.sheet.specs.declared.Lines.{Lines}
-use Rattle.sheet.specs.declared.Refusal.{Refusal}
 use Rattle.sheet.specs.Record.{mostQubits}
-use Rattle.sheet.specs.Reader.{Parsed, got, stop, isLine, readLetters}
+use Rattle.sheet.specs.Reader.{Parsed, isLine, readLetters}
 use Rattle.lines.specs.declared.RowLine.{RowLine}
 use Rattle.lines.specs.Answers.{keyOf, rowIn, rowBehindKey, withinQubits, rowAnswer}
 use Rattle.lines.proofs.Lines.{line-off-form, row-within, row-line-no-sign, row-line-no-letters, row-line-value}
@@ -60,9 +59,11 @@ abbrev form-of-letters : tie.After-read-letters → tie.Else2
 form-of-letters c = form-of-sign (sign-of-letters c .before .before)
 
 letters-are : (c : tie.After-read-letters)
-    → readLetters (take (n (start (form-of-letters c))) (drop 3 (s (start (form-of-letters c))))) ≡ rowIn (c .read-letters .result)
+    → readLetters (take (n (start (form-of-letters c))) (drop 3 (s (start (form-of-letters c))))) ≡ rowIn
+    (c .read-letters .result)
 letters-are c =
-    let first = start (form-of-letters c) in ap readLetters (sym (part-of 3 (n first) (s first))) ∙ sym (c .read-letters .ensures)
+    let first = start (form-of-letters c) in ap readLetters (sym (part-of 3 (n first) (s first)))
+    ∙ sym (c .read-letters .ensures)
 
 returns : tie.Need-returns
 returns c = c .refused .ensures _ ∙ ap (rowAnswer _) (sym (many-qubits _ _ _ _ (c .before .if1 .taken)))
@@ -72,7 +73,8 @@ returns-2 c =
     let found = c .before .before in
     gives (found .before .before .before) (search needs)
     (c .refused2 .ensures _
-    ∙ ap (rowAnswer _) (sym (line-off-form _ _ _ _ (sym (found .is-line .ensures) ∙ not-true _ (c .before .if2 .taken)))))
+    ∙ ap (rowAnswer _) (sym (line-off-form _ _ _ _ (sym (found .is-line .ensures)
+    ∙ not-true _ (c .before .if2 .taken)))))
 
 shared-slice-read-read : tie.Need-shared-slice-read-read
 shared-slice-read-read c = omega (arith, within (c .before))
@@ -83,7 +85,9 @@ returns-3 c =
     let form = form-of-sign found in
     gives (start form) (search needs)
     (c .refused3 .ensures _
-    ∙ ap (rowAnswer _) (sym (row-line-no-sign (n (start form)) (start form .args .at) (s (start form)) (formed form) (sign-is found ∙ ap signIn (c .before .enum-told .given .1)))))
+    ∙ ap (rowAnswer _)
+    (sym (row-line-no-sign (n (start form)) (start form .args .at) (s (start form)) (formed form) (sign-is found
+    ∙ ap signIn (c .before .enum-told .given .1)))))
 
 part-read-letters-end : tie.Need-part-read-letters-end
 part-read-letters-end c = omega (arith, within (form-of-sign (c .before .before .before)))
@@ -100,7 +104,9 @@ returns-4 c =
     let form = form-of-letters found in
     gives (start form) (search needs)
     (c .refused4 .ensures _
-    ∙ ap (rowAnswer _) (sym (row-line-no-letters (n (start form)) (start form .args .at) (s (start form)) (formed form) (letters-are found ∙ ap rowIn (c .before .enum-told2 .given .1)))))
+    ∙ ap (rowAnswer _)
+    (sym (row-line-no-letters (n (start form)) (start form .args .at) (s (start form)) (formed form) (letters-are found
+    ∙ ap rowIn (c .before .enum-told2 .given .1)))))
 
 returns-5 : tie.Need-returns-5
 returns-5 c =
@@ -111,7 +117,8 @@ returns-5 c =
     gives first (search needs)
     (ap (λ P. record { answer = Lines.Read (n first + 4); row = P }) (c .signed .ensures)
     ∙ row-read _ _ (within form) _
-    (row-line-value (n first) (first .args .at) (s first) (formed form) _ _ (sign-is (sign .before .before) ∙ ap signIn (sign .sign .given .1))
+    (row-line-value (n first) (first .args .at) (s first) (formed form) _ _ (sign-is (sign .before .before)
+    ∙ ap signIn (sign .sign .given .1))
     (letters-are found ∙ ap rowIn (c .before .before .plus .given .1))))
 
 pub signed-row-spec : {M : Type 1} → statement M

@@ -18,13 +18,15 @@ returns-2 : tie.Need-returns-2
 unfolding behind
 returns-2 c =
     let s = c .before .before .before .before .before .args .s .now in
-    tail-of (c .before .before .before .answer .given .0 .0) s ∙ ap (behind s) (sym (c .before .before .before .answer .given .1))
+    tail-of (c .before .before .before .answer .given .0 .0) s
+    ∙ ap (behind s) (sym (c .before .before .before .answer .given .1))
 
 returns-3 : tie.Need-returns-3
 unfolding behind
 returns-3 c =
     let s = c .before .before .before .before .before .args .s .now in
-    tail-of (length s) s ∙ drop-length s ∙ sym (drop-of-length-le s (c .before .if1 .left)) ∙ ap (behind s) (sym (c .before .before .before .answer .given .1))
+    tail-of (length s) s ∙ drop-length s ∙ sym (drop-of-length-le s (c .before .if1 .left))
+    ∙ ap (behind s) (sym (c .before .before .before .answer .given .1))
 
 pub behind-spec : {M : Type 1} → statement M
 behind-spec =

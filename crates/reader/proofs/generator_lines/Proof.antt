@@ -2,7 +2,7 @@
 use mathlib.Core.Bool.{true, false, _||_, or-true}
 use mathlib.Core.List.{List}
 use mathlib.Core.Logic.{⊎-elim}
-use mathlib.Core.Path.{_≡_, refl, ap, sym, _∙_}
+use mathlib.Core.Path.{_≡_, ap, sym, _∙_}
 use Prim.Native.Nat.{ℕ, _+_, _≤_}
 use native.Mathlib.Omega.{arith}
 use borrow.Author.Needs.{needs}
@@ -14,7 +14,7 @@ use Rattle.pauli.specs.Lists.{bytes}
 use Rattle.sheet.specs.declared.Lines.{Lines}
 use Rattle.sheet.specs.declared.Refusal.{Refusal}
 use Rattle.sheet.specs.Reader.{Parsed, got, begins, rowsUpTo}
-use Rattle.sheet.specs.Record.{firstGeneratorAt, mostGenerators, filled}
+use Rattle.sheet.specs.Record.{firstGeneratorAt, mostGenerators}
 use Rattle.sheet.proofs.Parts.{tail-of}
 use Rattle.reader.specs.Answers.{Reads, mapped, countedRows}
 use Rattle.reader.proofs.Reached.{reads-refused, reads-read, reads-as, Reached, was-read, was-refused}
@@ -44,7 +44,8 @@ rows-answer : (c : tie.After-rows-up-to)
     (mapped countedRows (lines (start c)))
 rows-answer c =
     reads-as
-    (ap (λ m. mapped countedRows (rowsUpTo m "g=" (n (start c)) firstGeneratorAt (s (start c)))) (c .before .most-generators .ensures))
+    (ap (λ m. mapped countedRows (rowsUpTo m "g=" (n (start c)) firstGeneratorAt (s (start c))))
+    (c .before .most-generators .ensures))
     (c .rows-up-to .ensures .1)
 
 -- ---- the rows that were read
@@ -59,11 +60,13 @@ abbrev rest : tie.After-answer → List ℕ
 rest c = drop (c .answer .given .0 .0) (s (start (found c)))
 
 reached : (c : tie.After-answer)
-    → Reached (s (start (found c))) (c .answer .given .0 .0) (count c, found c .rows-up-to .result .rows) (mapped countedRows (lines (start (found c))))
+    → Reached (s (start (found c))) (c .answer .given .0 .0) (count c, found c .rows-up-to .result .rows)
+    (mapped countedRows (lines (start (found c))))
 reached c = was-read (rows-answer (found c)) (c .answer .given .1)
 
 read : (c : tie.After-answer)
-    → (gs : List Pauli) × (lines (start (found c)) ≡ got gs (rest c)) × (countedRows gs ≡ (count c, found c .rows-up-to .result .rows))
+    → (gs : List Pauli) × (lines (start (found c)) ≡ got gs (rest c))
+    × (countedRows gs ≡ (count c, found c .rows-up-to .result .rows))
 read c = mapped-got countedRows _ (reached c .gives)
 
 counted : (c : tie.After-answer) → length (read c .0) ≡ count c
@@ -81,7 +84,8 @@ returns c =
       few line,
       reads-refused (c .enum-told .given .1)
           (stop-mapped countedRows
-          (generators-refused _ _ _ (mapped-stop countedRows _ (was-refused (rows-answer line) (c .enum-told .given .1))))),
+          (generators-refused _ _ _
+          (mapped-stop countedRows _ (was-refused (rows-answer line) (c .enum-told .given .1))))),
     )
 
 sub-begins-row : tie.Need-sub-begins-row
@@ -101,7 +105,8 @@ returns-2 c =
     let ended : (eqb (length gs) 0 || begins (bytes "g=") (rest at)) ≡ true =
     ⊎-elim (λ w. ap (λ b. b || begins (bytes "g=") (rest at)) (eq-eqb (length gs) 0 (counted at ∙ w .taken)))
     (λ w. ap (λ b. eqb (length gs) 0 || b)
-    (ap (begins (bytes "g=")) (sym (tail-of (at .answer .given .0 .0) (s (start (found at))))) ∙ sym (w .2 .ensures) ∙ w .3 .taken)
+    (ap (begins (bytes "g=")) (sym (tail-of (at .answer .given .0 .0) (s (start (found at))))) ∙ sym (w .2 .ensures)
+    ∙ w .3 .taken)
     ∙ or-true (eqb (length gs) 0)) (c .before .if1 .came) in (
       few (found at),
       reads-refused (ap (λ m. Lines.Refused (Refusal.GeneratorCount (firstGeneratorAt + m))) (sym (counted at)))
@@ -116,11 +121,13 @@ returns-3 c =
     let gs = read at .0 in
     let ended : (eqb (length gs) 0 || begins (bytes "g=") (rest at)) ≡ false =
     ap (λ b. b || begins (bytes "g=") (rest at)) (ne-eqb (length gs) 0 (λ e. none .if1 .left (sym (counted at) ∙ e)))
-    ∙ ap (begins (bytes "g=")) (sym (tail-of (at .answer .given .0 .0) (s (start (found at))))) ∙ sym (behind .begins-row .ensures)
+    ∙ ap (begins (bytes "g=")) (sym (tail-of (at .answer .given .0 .0) (s (start (found at)))))
+    ∙ sym (behind .begins-row .ensures)
     ∙ c .if2 .left in (
       few (found at),
       reads-read (at .answer .given .1) (reached at .within)
-          (then-mapped countedRows (generators-counted _ _ _ (read at .1) ended) ∙ ap (λ held. got held (rest at)) (read at .2)),
+          (then-mapped countedRows (generators-counted _ _ _ (read at .1) ended)
+          ∙ ap (λ held. got held (rest at)) (read at .2)),
     )
 
 pub generator-lines-spec : {M : Type 1} → statement M

@@ -48,7 +48,8 @@ abbrev w-line : tie.After-pair-count → Reader Pauli
 w-line c = claimLine (n c) (at c + 2 * k c)
 
 -- the generators that are held, as they were read
-paired : (c : tie.After-pair-count) (gs : List Pauli) → countedRows gs ≡ (first c .args .generators .count, first c .args .generators .rows)
+paired : (c : tie.After-pair-count) (gs : List Pauli)
+    → countedRows gs ≡ (first c .args .generators .count, first c .args .generators .rows)
     → pairCount (n c) (length gs) ≡ k c
 paired c gs e = ap (λ p. pairCount (n c) (p .0)) e ∙ sym (c .pair-count .ensures)
 
@@ -60,7 +61,9 @@ start-x c = c .before .before .before
 abbrev to-z : tie.After-answer → ℕ
 to-z c = c .answer .given .0 .0
 
-x-read : (c : tie.After-answer) → Reached (s (start-x c)) (to-z c) (c .before .before .logical-lines .result .rows) (x-lines (start-x c) (s (start-x c)))
+x-read : (c : tie.After-answer)
+    → Reached (s (start-x c)) (to-z c) (c .before .before .logical-lines .result .rows)
+    (x-lines (start-x c) (s (start-x c)))
 x-read c = was-read (c .before .before .logical-lines .ensures) (c .answer .given .1)
 
 -- ---- z
@@ -72,8 +75,10 @@ abbrev bytes-z : tie.After-logical-lines2 → List ℕ
 bytes-z c = drop (to-z (behind-x c)) (s (start-x (behind-x c)))
 
 z-answer : (c : tie.After-logical-lines2)
-    → Reads (bytes-z c) (c .logical-lines2 .result .answer) (c .logical-lines2 .result .rows) (z-lines (start-x (behind-x c)) (bytes-z c))
-z-answer c = on-tail (z-lines (start-x (behind-x c))) (to-z (behind-x c)) (s (start-x (behind-x c))) (c .logical-lines2 .ensures)
+    → Reads (bytes-z c) (c .logical-lines2 .result .answer) (c .logical-lines2 .result .rows)
+    (z-lines (start-x (behind-x c)) (bytes-z c))
+z-answer c =
+    on-tail (z-lines (start-x (behind-x c))) (to-z (behind-x c)) (s (start-x (behind-x c))) (c .logical-lines2 .ensures)
 
 abbrev x-of-z : tie.After-answer2 → tie.After-answer
 x-of-z c = behind-x (c .before .before)
@@ -85,7 +90,8 @@ abbrev to-w : tie.After-answer2 → ℕ
 to-w c = to-z (x-of-z c) + c .answer2 .given .0 .0
 
 z-read : (c : tie.After-answer2)
-    → Reached (s (start-z c)) (to-w c) (c .before .before .logical-lines2 .result .rows) (z-lines (start-z c) (bytes-z (c .before .before)))
+    → Reached (s (start-z c)) (to-w c) (c .before .before .logical-lines2 .result .rows)
+    (z-lines (start-z c) (bytes-z (c .before .before)))
 z-read c = reached-more (x-read (x-of-z c) .within) (z-answer (c .before .before)) (c .answer2 .given .1)
 
 -- ---- w
@@ -106,7 +112,8 @@ w-answer c =
     let line = at begin + 2 * k begin in
     claim-reads (n begin) line (bytes-w c) (first begin .pre .0)
     (c .claim-line .ensures
-    ∙ ap (λ t. rowAnswer t (withinQubits (n begin) line (claimLine (n begin) line) t)) (tail-of (to-w (behind-z c)) (s begin)))
+    ∙ ap (λ t. rowAnswer t (withinQubits (n begin) line (claimLine (n begin) line) t))
+    (tail-of (to-w (behind-z c)) (s begin)))
 
 abbrev z-of-w : tie.After-answer3 → tie.After-answer2
 z-of-w c = behind-z (c .before .before)
@@ -143,14 +150,16 @@ add-logical-lines c = let begin = start-x (c .before .before) in omega (arith, f
 
 logical-lines-requires-2 : tie.Need-logical-lines-requires-2
 logical-lines-requires-2 c κs =
-    let begin = start-x (c .before .before) in (first begin .pre .0, (few begin, omega (arith, few begin, first begin .pre .1)))
+    let begin = start-x (c .before .before) in
+    (first begin .pre .0, (few begin, omega (arith, few begin, first begin .pre .1)))
 
 returns-2 : tie.Need-returns-2
 returns-2 c =
     let found = c .before .before .before in
     let begin = start-x (behind-x found) in
     λ gs e. sheet-refused (c .refused2 .ensures) (c .before .enum-told2 .given .1)
-    (z-refused (n begin) (first begin .args .d) (at begin) gs (k begin) (paired begin gs e) (s begin) (x-read (behind-x found) .gives)
+    (z-refused (n begin) (first begin .args .d) (at begin) gs (k begin) (paired begin gs e) (s begin)
+    (x-read (behind-x found) .gives)
     (was-refused (z-answer found) (c .before .enum-told2 .given .1)))
 
 add-to-w : tie.Need-add-to-w
@@ -173,7 +182,8 @@ returns-3 c =
     let found = c .before .before .before in
     let begin = start-w found in
     λ gs e. sheet-refused (c .refused3 .ensures) (c .before .enum-told3 .given .1)
-    (w-refused (n begin) (first begin .args .d) (at begin) gs (k begin) (paired begin gs e) (s begin) (x-read (x-of-z (behind-z found)) .gives)
+    (w-refused (n begin) (first begin .args .d) (at begin) gs (k begin) (paired begin gs e) (s begin)
+    (x-read (x-of-z (behind-z found)) .gives)
     (z-read (behind-z found) .gives) (was-refused (w-answer found) (c .before .enum-told3 .given .1)))
 
 add-t25 : tie.Need-add-t25
@@ -186,7 +196,8 @@ returns-4 c =
     let found = c .before .before .before .before .before in
     let begin = start-end found in
     λ gs e. sheet-read refl (claim-read found .within)
-    (w-read (n begin) (first begin .args .d) (at begin) gs (k begin) (paired begin gs e) (s begin) (x-read (x-of-z (z-of-w found)) .gives)
+    (w-read (n begin) (first begin .args .d) (at begin) gs (k begin) (paired begin gs e) (s begin)
+    (x-read (x-of-z (z-of-w found)) .gives)
     (z-read (z-of-w found) .gives) e (claim-read found .gives))
 
 pub lines-after-spec : {M : Type 1} → statement M

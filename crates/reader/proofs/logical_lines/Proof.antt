@@ -1,7 +1,7 @@
 -- The rows are read, or refused; then their count is looked at.
 use mathlib.Core.List.{List}
 use mathlib.Core.Path.{_≡_, ap, sym, _∙_}
-use Prim.Native.Nat.{ℕ, _+_, _≤_}
+use Prim.Native.Nat.{ℕ, _+_}
 use native.Mathlib.Omega.{arith}
 use borrow.Author.Needs.{needs}
 use lib.ListN.{length, take, drop}
@@ -9,7 +9,7 @@ use Rattle.pauli.specs.declared.Pauli.{Pauli}
 use Rattle.sheet.specs.declared.Lines.{Lines}
 use Rattle.sheet.specs.declared.Refusal.{Refusal}
 use Rattle.sheet.specs.Reader.{Parsed, got, rowsUpTo}
-use Rattle.sheet.specs.Record.{logicalRoom, generatorRoom, filled, rowKey}
+use Rattle.sheet.specs.Record.{logicalRoom, filled, rowKey}
 use Rattle.reader.specs.Answers.{mapped, countedRows}
 use Rattle.reader.proofs.Reached.{reads-refused, reads-read, Reached, was-read, was-refused}
 use Rattle.reader.proofs.RowLines.{mapped-stop, mapped-got, then-mapped, stop-mapped, shorter-room}
@@ -53,23 +53,27 @@ returns c =
     let line = c .before .before .before .before in
     reads-refused (c .enum-told2 .given .1)
     (stop-mapped (filled logicalRoom)
-    (logicals-refused _ _ _ _ _ (mapped-stop countedRows _ (was-refused (line .rows-up-to .ensures .1) (c .enum-told2 .given .1)))))
+    (logicals-refused _ _ _ _ _
+    (mapped-stop countedRows _ (was-refused (line .rows-up-to .ensures .1) (c .enum-told2 .given .1)))))
 
 returns-2 : tie.Need-returns-2
 returns-2 c =
     let at = c .before in
     reads-refused (ap (λ m. Lines.Refused (Refusal.Form (start (found at) .args .at + m))) (sym (counted at)))
-    (stop-mapped (filled logicalRoom) (logicals-missing _ _ _ _ _ (read at .1) (omega (arith, counted at, c .if1 .taken))))
+    (stop-mapped (filled logicalRoom)
+    (logicals-missing _ _ _ _ _ (read at .1) (omega (arith, counted at, c .if1 .taken))))
 
 returns-3 : tie.Need-returns-3
 returns-3 c =
     let at = c .before in
     reads-read (at .enum-told .given .1) (reached at .within)
-    (then-mapped (filled logicalRoom) (logicals-counted _ _ _ _ _ (read at .1) (omega (arith, counted at, c .if1 .left)))
+    (then-mapped (filled logicalRoom)
+    (logicals-counted _ _ _ _ _ (read at .1) (omega (arith, counted at, c .if1 .left)))
     ∙ ap (λ rows. got rows (drop (at .enum-told .given .0 .0) (s (start (found at)))))
     (sym
     (at .before .before .logical-rows .ensures ∙ ap (take logicalRoom) (sym (ap (λ p. p .1) (read at .2)))
-    ∙ shorter-room (read at .0) (omega (arith, counted at, found at .rows-up-to .ensures .0, start (found at) .pre .1 .0)))))
+    ∙ shorter-room (read at .0)
+    (omega (arith, counted at, found at .rows-up-to .ensures .0, start (found at) .pre .1 .0)))))
 
 pub logical-lines-spec : {M : Type 1} → statement M
 logical-lines-spec =

@@ -14,7 +14,8 @@ use Rattle.reader.proofs.logical_rows.Statement.{statement}
 use Rattle.reader.proofs.logical_rows.Tie as tie
 
 abbrev Inv-loop : tie.InvT-loop
-Inv-loop rows logicals₀ place₀ logicals place = (place ≤ logicalRoom) × (logicals ≡ filled logicalRoom (take place rows))
+Inv-loop rows logicals₀ place₀ logicals place =
+    (place ≤ logicalRoom) × (logicals ≡ filled logicalRoom (take place rows))
 
 abbrev μ-loop : tie.MeasureT-loop
 μ-loop rows logicals₀ place₀ logicals place = logicalRoom - place
@@ -40,7 +41,8 @@ loop-again c =
       search needs,
       ap (λ all. set all place (getD rows place identity)) (at .loop .inv .1)
           ∙ ap (λ m. set (filled logicalRoom (take place rows)) m (getD rows place identity)) (sym count)
-          ∙ filled-more logicalRoom (take place rows) (getD rows place identity) (omega (arith, count, c .before .loop-test .taken))
+          ∙ filled-more logicalRoom (take place rows) (getD rows place identity)
+          (omega (arith, count, c .before .loop-test .taken))
           ∙ ap (filled logicalRoom) (sym (ap (λ m. take m rows) (add-one place) ∙ take-suc rows place identity here)),
     )
 

@@ -14,14 +14,17 @@ returns : tie.Need-returns
 unfolding linesReading readLines answered
 returns c =
     let s = c .before .before .before .args .s .now in
-    c .refused .ensures ∙ ap (λ b. answered s (cond b (stop Refusal.TooLong) (sheetLines s))) (sym (lt-ltb 4096 (length s) (c .before .if1 .taken)))
+    c .refused .ensures
+    ∙ ap (λ b. answered s (cond b (stop Refusal.TooLong) (sheetLines s)))
+    (sym (lt-ltb 4096 (length s) (c .before .if1 .taken)))
 
 returns-2 : tie.Need-returns-2
 unfolding linesReading readLines
 returns-2 c =
     let s = c .before .before .before .args .s .now in
     is-answered (c .sheet-lines .ensures)
-    ∙ ap (λ b. answered s (cond b (stop Refusal.TooLong) (sheetLines s))) (sym (le-ltb 4096 (length s) (c .before .if1 .left)))
+    ∙ ap (λ b. answered s (cond b (stop Refusal.TooLong) (sheetLines s)))
+    (sym (le-ltb 4096 (length s) (c .before .if1 .left)))
 
 pub read-lines-spec : {M : Type 1} → statement M
 read-lines-spec = tie.close (tie.spec (λ c κs. search needs) returns (λ c κs. search needs) returns-2)

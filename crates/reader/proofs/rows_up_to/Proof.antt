@@ -1,5 +1,5 @@
 -- Each turn reads one line where one begins; what was read stands before what the rest gives.
-use mathlib.Core.Bool.{true, false}
+use mathlib.Core.Bool.{true}
 use mathlib.Core.List.{List, []}
 use mathlib.Core.Path.{_≡_, refl, ap, sym, subst, _∙_}
 use Prim.Native.Nat.{ℕ, _+_, _-_, _≤_}
@@ -49,15 +49,18 @@ so-far c = c .loop .inv .1
 
 -- A refusal of what is left is one of all lines.
 refused-from : {refusal : Refusal} (c : At) → R (start c) (c .loop .count) (left c) ≡ stop refusal
-    → mapped countedRows (rowsUpTo (start c .args .most) (rowKey (start c .args .family)) (start c .args .n) (start c .args .at) (s c))
+    → mapped countedRows
+    (rowsUpTo (start c .args .most) (rowKey (start c .args .family)) (start c .args .n) (start c .args .at) (s c))
     ≡ stop refusal
 unfolding mapped continue
 refused-from c e =
-    ap (mapped countedRows) (sym (rows-all _ _ _ _ (s c)) ∙ progress-refused generatorRoom (R (start c)) (s c) (so-far c) e)
+    ap (mapped countedRows) (sym (rows-all _ _ _ _ (s c))
+    ∙ progress-refused generatorRoom (R (start c)) (s c) (so-far c) e)
 
 -- The reading ends with what was read.
 ended : (c : At) → R (start c) (c .loop .count) (left c) ≡ got [] (left c)
-    → mapped countedRows (rowsUpTo (start c .args .most) (rowKey (start c .args .family)) (start c .args .n) (start c .args .at) (s c))
+    → mapped countedRows
+    (rowsUpTo (start c .args .most) (rowKey (start c .args .family)) (start c .args .n) (start c .args .at) (s c))
     ≡ got (c .loop .count, c .loop .rows) (left c)
 unfolding mapped continue done
 ended c e =
@@ -83,14 +86,16 @@ begun-at c = c .before .before
 abbrev line-at : tie.After-signed-row Inv-loop μ-loop → At
 line-at c = key-at (begun-at c .before)
 
-begun : (c : tie.After-signed-row Inv-loop μ-loop) → begins (bytes (rowKey (start (line-at c) .args .family))) (left (line-at c)) ≡ true
+begun : (c : tie.After-signed-row Inv-loop μ-loop)
+    → begins (bytes (rowKey (start (line-at c) .args .family))) (left (line-at c)) ≡ true
 begun c = begins-there (begun-at c .before) ∙ begun-at c .if1 .taken
 
 abbrev next-line : At → Reader Pauli
 next-line c = rowLine (rowKey (start c .args .family)) (start c .args .n) (start c .args .at + c .loop .count)
 
 line-answer : (c : tie.After-signed-row Inv-loop μ-loop)
-    → Reads (left (line-at c)) (c .signed-row .result .answer) (c .signed-row .result .row) (next-line (line-at c) (left (line-at c)))
+    → Reads (left (line-at c)) (c .signed-row .result .answer) (c .signed-row .result .row)
+    (next-line (line-at c) (left (line-at c)))
 line-answer c =
     let first = start (line-at c) in
     let line = first .args .at + line-at c .loop .count in
@@ -108,7 +113,8 @@ loop-holds : tie.Need-loop-holds Inv-loop μ-loop
 loop-holds c =
     let first = c .before .before in (
       search needs,
-      subst (λ one. Progress generatorRoom (R first) (first .args .s .now) (replicate generatorRoom one) 0 0) (sym (c .identity .ensures))
+      subst (λ one. Progress generatorRoom (R first) (first .args .s .now) (replicate generatorRoom one) 0 0)
+          (sym (c .identity .ensures))
           (progress-start generatorRoom (R first) (first .args .s .now)),
     )
 
@@ -135,14 +141,19 @@ loop-again c =
     let line = found .before .before in
     let behind = line-at line in (
       search needs,
-      progress-row generatorRoom (R (start behind)) (s behind) (so-far behind) _ _ (search needs) (line-read found .within)
-          (rows-row _ _ _ _ _ _ (begun-at line .before .before .before .loop-test .taken) (begun line) (line-read found .gives)),
+      progress-row generatorRoom (R (start behind)) (s behind) (so-far behind) _ _ (search needs)
+          (line-read found .within)
+          (rows-row _ _ _ _ _ _ (begun-at line .before .before .before .loop-test .taken) (begun line)
+          (line-read found .gives)),
     )
 
 returns-2 : tie.Need-returns-2 Inv-loop μ-loop
 returns-2 c =
-    let behind = key-at (c .before) in
-    (search needs, reads-read refl (so-far behind .within) (ended behind (rows-ended _ _ _ _ _ _ (begins-there (c .before) ∙ c .if1 .left))))
+    let behind = key-at (c .before) in (
+      search needs,
+      reads-read refl (so-far behind .within)
+          (ended behind (rows-ended _ _ _ _ _ _ (begins-there (c .before) ∙ c .if1 .left))),
+    )
 
 returns-3 : tie.Need-returns-3 Inv-loop μ-loop
 returns-3 c =

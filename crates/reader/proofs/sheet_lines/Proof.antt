@@ -1,4 +1,5 @@
--- n, d, the g lines and what follows them in turn; each that is refused ends it. What is known behind each line has a name.
+-- n, d, the g lines and what follows them in turn; each that is refused ends it. What is known behind each line has a
+-- name.
 use mathlib.Core.List.{List}
 use mathlib.Core.Path.{_≡_, ap, _∙_}
 use Prim.Native.Nat.{ℕ, _+_, _≤_}
@@ -15,7 +16,8 @@ use Rattle.sheet.proofs.Parts.{tail-of}
 use Rattle.lines.specs.Answers.{numberAnswer}
 use Rattle.reader.specs.Answers.{Reads, ReadsSheet, mapped, countedRows}
 use Rattle.reader.proofs.Reached.{Reached, was-read, was-refused, on-tail, reached-more, number-reads}
-use Rattle.reader.proofs.Sheets.{n-refused, d-refused, g-refused, g-read, sheet-refused, sheet-on-tail, sheet-refused-behind, sheet-read-behind}
+use Rattle.reader.proofs.Sheets.{n-refused, d-refused, g-refused, g-read, sheet-refused, sheet-on-tail}
+use Rattle.reader.proofs.Sheets.{sheet-refused-behind, sheet-read-behind}
 use Rattle.reader.proofs.sheet_lines.Statement.{statement}
 use Rattle.reader.proofs.sheet_lines.Tie as tie
 
@@ -34,7 +36,8 @@ abbrev n : tie.After-answer → ℕ
 n c = c .before .before .qubit-line .result .number
 
 n-answer : (c : tie.After-qubit-line)
-    → Reads (c .before .before .args .s .now) (c .qubit-line .result .answer) (c .qubit-line .result .number) (qubitLine (c .before .before .args .s .now))
+    → Reads (c .before .before .args .s .now) (c .qubit-line .result .answer) (c .qubit-line .result .number)
+    (qubitLine (c .before .before .args .s .now))
 n-answer c = let t = c .before .before .args .s .now in number-reads t (qubit-line-outcome t) (c .qubit-line .ensures)
 
 n-read : (c : tie.After-answer) → Reached (s c) (to-d c) (n c) (qubitLine (s c))
@@ -52,11 +55,13 @@ abbrev d : tie.After-distance-line → ℕ
 d c = c .distance-line .result .number
 
 d-answer : (c : tie.After-distance-line)
-    → Reads (drop (to-d (behind-n c)) (s (behind-n c))) (c .distance-line .result .answer) (d c) (distanceLine (drop (to-d (behind-n c)) (s (behind-n c))))
+    → Reads (drop (to-d (behind-n c)) (s (behind-n c))) (c .distance-line .result .answer) (d c)
+    (distanceLine (drop (to-d (behind-n c)) (s (behind-n c))))
 d-answer c =
     let t = drop (to-d (behind-n c)) (s (behind-n c)) in
     number-reads t (distance-line-outcome t)
-    (c .distance-line .ensures ∙ ap (λ t. numberAnswer t (distanceLine t)) (tail-of (to-d (behind-n c)) (s (behind-n c))))
+    (c .distance-line .ensures
+    ∙ ap (λ t. numberAnswer t (distanceLine t)) (tail-of (to-d (behind-n c)) (s (behind-n c))))
 
 abbrev n-of-d : tie.After-answer2 → tie.After-answer
 n-of-d c = behind-n (c .before .before)
@@ -80,9 +85,11 @@ abbrev held : tie.After-generator-lines → ℕ × List Pauli
 held c = (c .generator-lines .result .count, c .generator-lines .result .rows)
 
 g-answer : (c : tie.After-generator-lines)
-    → Reads (bytes-g c) (c .generator-lines .result .answer) (held c) (mapped countedRows (generatorLines (n (n-of-d (behind-d c))) firstGeneratorAt (bytes-g c)))
+    → Reads (bytes-g c) (c .generator-lines .result .answer) (held c)
+    (mapped countedRows (generatorLines (n (n-of-d (behind-d c))) firstGeneratorAt (bytes-g c)))
 g-answer c =
-    on-tail (λ t. mapped countedRows (generatorLines (n (n-of-d (behind-d c))) firstGeneratorAt t)) (to-g (behind-d c)) (s (n-of-d (behind-d c)))
+    on-tail (λ t. mapped countedRows (generatorLines (n (n-of-d (behind-d c))) firstGeneratorAt t)) (to-g (behind-d c))
+    (s (n-of-d (behind-d c)))
     (c .generator-lines .ensures .1)
 
 abbrev d-of-g : tie.After-answer3 → tie.After-answer2
@@ -95,7 +102,8 @@ abbrev to-x : tie.After-answer3 → ℕ
 to-x c = to-g (d-of-g c) + c .answer3 .given .0 .0
 
 generators-read : (c : tie.After-answer3)
-    → Reached (s (n-of-g c)) (to-x c) (held (c .before .before)) (mapped countedRows (generatorLines (n (n-of-g c)) firstGeneratorAt (bytes-g (c .before .before))))
+    → Reached (s (n-of-g c)) (to-x c) (held (c .before .before))
+    (mapped countedRows (generatorLines (n (n-of-g c)) firstGeneratorAt (bytes-g (c .before .before))))
 generators-read c = reached-more (d-read (d-of-g c) .within) (g-answer (c .before .before)) (c .answer3 .given .1)
 
 generators-few : (c : tie.After-answer3) → c .before .before .generator-lines .result .count ≤ mostQubits
@@ -109,19 +117,24 @@ bytes-x c = drop (to-x c) (s (n-of-g c))
 
 abbrev tail : tie.After-answer3 → List Pauli → Reader SheetRead
 tail c gs =
-    linesAfter (n (n-of-g c)) (d (d-of-g c .before .before)) (firstGeneratorAt + c .before .before .generator-lines .result .count) gs
+    linesAfter (n (n-of-g c)) (d (d-of-g c .before .before))
+    (firstGeneratorAt + c .before .before .generator-lines .result .count) gs
 
-to-tail : (c : tie.After-answer3) → (gs : List Pauli) × (countedRows gs ≡ held (c .before .before)) × (sheetLines (s (n-of-g c)) ≡ tail c gs (bytes-x c))
+to-tail : (c : tie.After-answer3)
+    → (gs : List Pauli) × (countedRows gs ≡ held (c .before .before)) ×
+    (sheetLines (s (n-of-g c)) ≡ tail c gs (bytes-x c))
 to-tail c = g-read (s (n-of-g c)) (n-read (n-of-g c) .gives) (d-read (d-of-g c) .gives) (generators-read c .gives)
 
 abbrev behind-g : tie.After-lines-after → tie.After-answer3
 behind-g c = c .before .before .before .before
 
 tail-reading : (c : tie.After-lines-after)
-    → ReadsSheet (bytes-x (behind-g c)) (c .lines-after .result) (tail (behind-g c) (to-tail (behind-g c) .0) (bytes-x (behind-g c)))
+    → ReadsSheet (bytes-x (behind-g c)) (c .lines-after .result)
+    (tail (behind-g c) (to-tail (behind-g c) .0) (bytes-x (behind-g c)))
 tail-reading c =
     let gs = to-tail (behind-g c) in
-    sheet-on-tail (tail (behind-g c) (gs .0)) (to-x (behind-g c)) (s (n-of-g (behind-g c))) (c .lines-after .ensures (gs .0) (gs .1))
+    sheet-on-tail (tail (behind-g c) (gs .0)) (to-x (behind-g c)) (s (n-of-g (behind-g c)))
+    (c .lines-after .ensures (gs .0) (gs .1))
 
 -- ---- the needs
 
@@ -162,7 +175,8 @@ returns-3 c =
     (was-refused (g-answer found) (c .before .enum-told3 .given .1)))
 
 add-to-x : tie.Need-add-to-x
-add-to-x c = record { fits = lt-of-le-of-lt (generators-read (c .before) .within) (start (n-of-g (c .before)) .good .0 .0) }
+add-to-x c =
+    record { fits = lt-of-le-of-lt (generators-read (c .before) .within) (start (n-of-g (c .before)) .good .0 .0) }
 
 add-at : tie.Need-add-at
 add-at c = omega (arith, generators-few (c .before .before))
@@ -180,7 +194,8 @@ lines-after-requires c κs =
 returns-4 : tie.Need-returns-4
 returns-4 c =
     let found = c .before .before in
-    sheet-refused-behind (to-x (behind-g found)) _ (tail-reading found) (to-tail (behind-g found) .2) (c .enum-told4 .given .1)
+    sheet-refused-behind (to-x (behind-g found)) _ (tail-reading found) (to-tail (behind-g found) .2)
+    (c .enum-told4 .given .1)
 
 add-t20 : tie.Need-add-t20
 add-t20 c =
@@ -188,7 +203,9 @@ add-t20 c =
     let behind = behind-g found in
     record {
       fits =
-          lt-of-le-of-lt (reached-more (generators-read behind .within) (tail-reading found .reads) (c .before .before .answer4 .given .1) .within)
+          lt-of-le-of-lt
+          (reached-more (generators-read behind .within) (tail-reading found .reads)
+          (c .before .before .answer4 .given .1) .within)
           (start (n-of-g behind) .good .0 .0);
     }
 
@@ -196,7 +213,8 @@ returns-5 : tie.Need-returns-5
 returns-5 c =
     let found = c .before .before .before .before in
     let behind = behind-g found in
-    sheet-read-behind (to-x behind) _ (tail-reading found) (to-tail behind .2) (generators-read behind .within) (c .before .before .answer4 .given .1)
+    sheet-read-behind (to-x behind) _ (tail-reading found) (to-tail behind .2) (generators-read behind .within)
+    (c .before .before .answer4 .given .1)
 
 pub sheet-lines-spec : {M : Type 1} → statement M
 sheet-lines-spec =

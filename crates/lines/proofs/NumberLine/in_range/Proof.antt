@@ -14,7 +14,8 @@ use Rattle.lines.proofs.NumberLine.in_range.Statement.{statement}
 use Rattle.lines.proofs.NumberLine.in_range.Tie as tie
 
 -- the number that was read
-number-is : (self : NumberLine) (s : List ℕ) (p : Parsed ℕ) {used : ℕ} → self ≡ numberAnswer s p → self .answer ≡ Lines.Read used
+number-is : (self : NumberLine) (s : List ℕ) (p : Parsed ℕ) {used : ℕ} → self ≡ numberAnswer s p
+    → self .answer ≡ Lines.Read used
     → (rest : List ℕ) × (p ≡ got (self .number) rest)
 unfolding numberAnswer
 number-is self s p h e =

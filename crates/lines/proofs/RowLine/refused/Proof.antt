@@ -9,7 +9,9 @@ use Rattle.lines.proofs.RowLine.refused.Tie as tie
 
 returns : tie.Need-returns
 unfolding rowAnswer linesOf valueOr
-returns c = λ s. ap (λ P. record { answer = Lines.Refused (Refusal.Form (c .before .args .at)); row = P }) (c .identity .ensures)
+returns c =
+    let answer = Lines.Refused (Refusal.Form (c .before .args .at)) in
+    λ s. ap (λ P. record { answer = answer; row = P }) (c .identity .ensures)
 
 pub refused-spec : {M : Type 1} → statement M
 refused-spec = tie.close (tie.spec (λ c κs. search needs) returns)
