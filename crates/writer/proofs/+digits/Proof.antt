@@ -4,7 +4,7 @@ use mathlib.Core.List.{List, [], _∷_, _++_}
 use mathlib.Core.Path.{_≡_, ap, sym, _∙_}
 use Prim.Native.Nat.{ℕ, _+_, _/_, _%_, _<_, _≤_}
 use native.Mathlib.Omega.{arith}
-use lib.ListN.{length, set}
+use lib.ListN.{length, set, length-set}
 use borrow.Author.Needs.{needs}
 use borrow.Fn.Kinds.{In}
 use borrow.Fn.PlainCycle.{Measures, is, falls, and}
@@ -91,7 +91,7 @@ module _ (t : ℕ) where
   add-result c = record { fits = omega (arith, room c, c .before .before .before .before .before .before .good .0) }
 
   same-length-2 : lts.Need-same-length-2 (below t, reads.Post) (at t) reads.Post
-  same-length-2 c = all c .size
+  same-length-2 c = simp length-set (tenth c .size)
 
   returns-2 : lts.Need-returns-2 (below t, reads.Post) (at t) reads.Post
   returns-2 c =
