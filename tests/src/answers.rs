@@ -3,13 +3,14 @@
 use crate::cases::{Case, Kind};
 use crate::group::member;
 use crate::product::{commute, product};
-use crate::record::{Pauli, Record};
+use crate::record::{write_number, Pauli, Record};
 use crate::sheet::{self, Letter, Refusal, Row, Sheet};
 
 pub fn answer(case: &Case) -> Vec<u8> {
     match case.kind {
         Kind::Products => products(&case.text),
         Kind::Sheet => sheet(&case.text, case.change),
+        Kind::Lines => lines(&case.text, case.change),
         Kind::Group => group(&case.text, case.change),
     }
 }
@@ -102,6 +103,18 @@ fn shown_behind(bytes: &[u8]) -> Vec<u8> {
         return count;
     }
     [&count, bytes, b"\n"].concat()
+}
+
+/// What is written of the changed record's first generator, n, and X mask of w, each as a line.
+fn lines(text: &[u8], change: usize) -> Vec<u8> {
+    let mut record = sheet::read_alone(text).map_or(Record::EMPTY, |sheet| Record::of(&sheet));
+    let room = record.n + 4;
+    record.change(change);
+    let Record { n, g, w, .. } = record;
+    let row = written_thrice(room, |out| record.write_row("h=", g[0], out));
+    let n = written_thrice(23, |out| write_number("n=", n, out));
+    let mask = written_thrice(8, |out| write_number("n=", w.a as usize, out));
+    [row, n, mask].concat()
 }
 
 /// The count of the rows or the refusal; and unless it is a refusal and there is no change, for each probe the sign

@@ -5,21 +5,23 @@
 
 const HEADER: usize = 10;
 
-/// Products of rows; a sheet that is read and written; the group of a sheet's generators.
+/// Products of rows; a sheet that is read and written; single lines of a sheet; the group of a sheet's generators.
 #[derive(Clone, Copy, PartialEq, Eq, Hash, Debug)]
 pub enum Kind {
     Products,
     Sheet,
+    Lines,
     Group,
 }
 
 impl Kind {
-    const ALL: [Kind; 3] = [Kind::Products, Kind::Sheet, Kind::Group];
+    const ALL: [Kind; 4] = [Kind::Products, Kind::Sheet, Kind::Lines, Kind::Group];
 
     fn letter(self) -> char {
         match self {
             Kind::Products => 'p',
             Kind::Sheet => 's',
+            Kind::Lines => 'l',
             Kind::Group => 'g',
         }
     }

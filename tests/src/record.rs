@@ -2,7 +2,7 @@
 //! a sheet, so it is looked at qubit by qubit and turned into one.
 
 use crate::group;
-use crate::sheet::{Letter, Refusal, Row, Sheet};
+use crate::sheet::{line, Letter, Refusal, Row, Sheet};
 
 /// i^p D(a,b), with qubit j at bit j - 1 of both masks, and p read modulo 4.
 #[derive(Clone, Copy, PartialEq, Eq, Debug)]
@@ -137,12 +137,27 @@ impl Record {
         put(&group::canonical_text(&self.within_limits()?)?, out)
     }
 
+    /// Writes the line of one row of n letters, whatever it is: its sign is - where it is not +, and bits above qubit n
+    /// are left out. 15 is about n alone.
+    pub fn write_row(&self, key: &str, pauli: Pauli, out: &mut [u8]) -> Result<usize, Refusal> {
+        if !(2..=24).contains(&self.n) {
+            return Err(Refusal::new(15, 0));
+        }
+        let (minus, letters) = (!pauli.has_sign(false), pauli.letters(self.n));
+        put(&line(key, &Row { minus, letters }.text()), out)
+    }
+
     /// Checks 15 and 6 to 8; gives the generators.
     pub fn checked_generators(&self) -> Result<Vec<Row>, Refusal> {
         let generators = self.within_limits()?.generators;
         group::check(&generators)?;
         Ok(generators)
     }
+}
+
+/// Writes the line of one number.
+pub fn write_number(key: &str, number: usize, out: &mut [u8]) -> Result<usize, Refusal> {
+    put(&line(key, number.to_string().as_bytes()), out)
 }
 
 /// Check 17, and the text at the front.
@@ -184,15 +199,23 @@ impl Pauli {
     /// The signed row on n qubits that this is, or none where a bit stands above qubit n or the phase is that of no
     /// sign.
     fn row(&self, n: usize) -> Option<Row> {
-        let at = |qubit: usize| (self.a >> qubit & 1, self.b >> qubit & 1);
-        if (n..32).any(|qubit| at(qubit) != (0, 0)) {
+        let letters = self.letters(32);
+        if letters[n..].iter().any(|&letter| letter != Letter::I) {
             return None;
         }
-        let letters: Vec<Letter> = (0..n).map(|qubit| letter(at(qubit))).collect();
-        let minus = [false, true]
-            .into_iter()
-            .find(|&minus| phase(minus, &letters) == self.p % 4)?;
+        let signs = [false, true];
+        let minus = signs.into_iter().find(|&minus| self.has_sign(minus))?;
+        let letters = self.letters(n);
         Some(Row { minus, letters })
+    }
+
+    fn letters(&self, n: usize) -> Vec<Letter> {
+        let at = |qubit: usize| (self.a >> qubit & 1, self.b >> qubit & 1);
+        (0..n).map(|qubit| letter(at(qubit))).collect()
+    }
+
+    fn has_sign(&self, minus: bool) -> bool {
+        phase(minus, &self.letters(32)) == self.p % 4
     }
 
     fn is_plus_i(&self) -> bool {
@@ -257,6 +280,21 @@ mod tests {
         assert_eq!(record(A).write(&mut short), refusal(17));
         assert_eq!(Record::EMPTY.write(&mut short), refusal(15));
         assert!(short.iter().all(|&byte| byte == b'.'));
+    }
+
+    #[test]
+    fn the_line_of_a_row_shows_n_letters_and_of_a_number_its_digits() {
+        let mut out = [b'.'; 9];
+        let record = record(&A.replace("g=+XZZXI", "g=-XYZYI"));
+        assert_eq!(record.write_row("h=", record.g[0], &mut out), Ok(9));
+        assert_eq!(&out, b"h=-XYZYI\n");
+        let (p, a, b) = (1, 1 << 5 | 1, 1 << 5);
+        assert_eq!(record.write_row("h=", Pauli { p, a, b }, &mut out), Ok(9));
+        assert_eq!(&out, b"h=+XIIII\n");
+        assert_eq!(write_number("d=", 3014, &mut out), Ok(7));
+        assert_eq!(&out, b"d=3014\nI\n");
+        let refusal = Err(Refusal::new(17, 0));
+        assert_eq!(write_number("d=", 3014, &mut out[..6]), refusal);
     }
 
     #[test]

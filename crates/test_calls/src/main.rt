@@ -1,14 +1,16 @@
 // Runs the calls that are proved, so that they can be compared with an implementation that shares nothing with them.
 // Standard input is a run of cases, each of one kind: "p" for products of rows, "s" for a sheet that is read and
-// written back, "g" for the group of a sheet's generators.
+// written back, "l" for single lines of a sheet, "g" for the group of a sheet's generators.
 mod groups;
 mod products;
 mod sheets;
+mod single_lines;
 mod written;
 
 use groups::answer_group;
 use products::answer_products;
 use sheets::answer_sheet;
+use single_lines::answer_lines;
 use test_cases::Case;
 use test_cases::print;
 
@@ -27,6 +29,7 @@ fn answer(kind: u8, change: usize, text: &[u8]) {
     match kind {
         b'p' => answer_products(text),
         b's' => answer_sheet(text, change),
+        b'l' => answer_lines(text, change),
         b'g' => answer_group(text, change),
         _ => print(b"no kind of case\n"),
     }

@@ -1,4 +1,5 @@
 // What a writer does with buffers of three lengths.
+use pauli::Pauli;
 use sheet::Code;
 use sheet::LONGEST_SHEET;
 use sheet::Written;
@@ -8,10 +9,12 @@ use test_cases::print;
 use test_cases::print_buffer;
 use test_cases::print_written;
 
-// Of a record's sheet, or of its canonical generators.
+// Of a record's sheet, of its canonical generators, or of the line of a row or a number by itself.
 pub enum Writer {
     Sheet,
     Canonical,
+    Row(Pauli),
+    Number(usize),
 }
 
 // Writes with a byte less than the lines take, with as many, and with three more. No lines take more bytes than the
@@ -40,5 +43,7 @@ fn written(writer: Writer, code: Code, out: &mut [u8]) -> Written {
     match writer {
         Writer::Sheet => writer::write_sheet(code, out),
         Writer::Canonical => canonical::write_canonical(code, out),
+        Writer::Row(row) => writer::write_row(b'h', code.n, row, out),
+        Writer::Number(number) => writer::write_number(b"n=", number, out),
     }
 }

@@ -43,8 +43,8 @@ pub fn print_written(written: Written) {
     print(b"\n");
 }
 
-// Bytes for a writer to write into, some more than the longest sheet has. They are dots, so that it can be seen what was
-// written.
+// Bytes for a writer to write into, some more than the longest sheet has. They are dots, so that it can be seen what
+// was written.
 pub fn dots() -> [u8; 1360]
     ensures { λ r. ⌜ r ≡ replicate 1360 dot ⌝ }
 {

@@ -40,8 +40,8 @@ pub fn parts() -> Vec<Part> {
         Part::kept(texts(published)),
         Part::sampled(2, texts(probed(&mut random, &repetitions))),
         Part::sampled(2, texts(repetitions)),
-        Part::sampled(24, each_change(Kind::Group, TO_BE_CHANGED)),
-        Part::sampled(24, texts(generated(&mut random))),
+        Part::sampled(20, each_change(Kind::Group, TO_BE_CHANGED)),
+        Part::sampled(18, texts(generated(&mut random))),
     ]
 }
 

@@ -15,7 +15,8 @@ const BYTES: &[u8] = b"x \r\0\xff\n0129gxzw=+-IYXZ";
 pub fn parts() -> Vec<Part> {
     let mut random = Random(0x5eed_0005_4ee7);
     let changed_a = each_change(Kind::Sheet, [A]);
-    let changed = each_change(Kind::Sheet, to_be_changed(&mut random));
+    let to_be_changed = to_be_changed(&mut random);
+    let changed = each_change(Kind::Sheet, to_be_changed.clone());
     vec![
         Part::kept(texts(samples::published())),
         Part::kept(texts([2, 24].map(samples::repetition))),
@@ -26,8 +27,8 @@ pub fn parts() -> Vec<Part> {
         Part::sampled(0, texts(samples::repetitions())),
         Part::sampled(5, texts(any_form(&mut random))),
         Part::sampled(4, texts(codes(&mut random))),
-        Part::sampled(15, texts(cut(&mut random))),
-        Part::sampled(45, texts(damaged(&mut random))),
+        Part::sampled(10, texts(cut(&mut random))),
+        Part::sampled(40, texts(damaged(&mut random))),
         Part::sampled(15, texts(lines_out_of_place())),
         Part::sampled(40, texts(misnumbered())),
         Part::sampled(15, texts(miscounted())),
@@ -35,6 +36,9 @@ pub fn parts() -> Vec<Part> {
         Part::sampled(50, texts(misshapen())),
         Part::sampled(10, texts(behind_w())),
         Part::sampled(0, texts(long(&mut random))),
+        Part::kept(unchanged(Kind::Lines, [A, TABLE_3_3])),
+        Part::sampled(4, unchanged(Kind::Lines, any_form(&mut random))),
+        Part::sampled(8, each_change(Kind::Lines, to_be_changed)),
     ]
 }
 

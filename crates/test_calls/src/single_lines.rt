@@ -1,0 +1,17 @@
+// Writes single lines of the changed record of a sheet, into buffers about as long as a line: that of the first
+// generator with the key h, that of n, which may be any number, and that of the X mask of w.
+use crate::written::Writer;
+use crate::written::write_thrice;
+use sheet::Family;
+use test_cases::changed;
+
+pub fn answer_lines(text: &[u8], change: usize) {
+    let reading = reader::read_form(text);
+    let code = reading.code;
+    let changed = changed(code, change);
+    let first = changed.row(Family::Generator, 0);
+    let w = changed.w;
+    write_thrice(Writer::Row(first), changed, code.n % 32 + 4);
+    write_thrice(Writer::Number(changed.n), changed, 23);
+    write_thrice(Writer::Number(w.a as usize), changed, 8);
+}
