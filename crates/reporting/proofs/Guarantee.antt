@@ -1,7 +1,6 @@
--- The third guarantee as a report shows it. The `c=` lines of errors have the letters of their corrections, since a report
--- answers each syndrome as the decoder does; and a refuted distance has the four lines of the refusal, whose two
--- errors are known from the decoder's guarantee to refute it and from admission to be from the earliest logical
--- error.
+-- The third guarantee as a report shows it. The `c=` lines of errors have the letters of their corrections, since a
+-- report answers each syndrome as the decoder does; and a refuted distance has the four lines of the refusal, whose two
+-- errors are known from the decoder's guarantee to refute it and from admission to be from the earliest logical error.
 use mathlib.Core.Bool.{Bool}
 use mathlib.Core.List.{List, _++_, map, append-assoc}
 use mathlib.Core.Option.{some, Option·some-injective}

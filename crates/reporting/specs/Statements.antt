@@ -168,9 +168,9 @@ pub record RefutationIsReported (q : SheetRead) (input : List ℕ) : Type 0 wher
   pub from : FromEarliest (q .code) pair
   pub report : IsReported input (refutationText q pair)
 
--- RULES, "Guarantees": the third one, of the report's call. Behind an admitted sheet, the syndrome of each error that strikes
--- at most t qubits has a `c=` line with the letters of its correction. A sheet that is admissible but for distance and
--- that 14 refuses has a refutation as its report, whatever stands behind it.
+-- RULES, "Guarantees": the third one, of the report's call. Behind an admitted sheet, the syndrome of each error that
+-- strikes at most t qubits has a `c=` line with the letters of its correction. A sheet that is admissible but for
+-- distance and that 14 refuses has a refutation as its report, whatever stands behind it.
 pub record GuaranteeInReports : Type 0 where
   pub corrected : (s : List ℕ) → readSheet s .answer ≡ Admission.Admitted → (E : Struck (readSheet s .code))
       → IsCorrected (readSheet s .code) (E .error)

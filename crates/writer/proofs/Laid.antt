@@ -1,4 +1,5 @@
--- Texts laid on a buffer, one behind the other: byte by byte, on a part that is lent, and as a text that grows (`Holds`).
+-- Texts laid on a buffer, one behind the other: byte by byte, on a part that is lent, and as a text that grows
+-- (`Holds`).
 use mathlib.Core.List.{List, [], _∷_, _++_, append-assoc, append-nil}
 use mathlib.Core.Path.{_≡_, refl, ap, sym, subst, _∙_}
 use Prim.Native.Nat.{ℕ, _+_, _-_, _≤_, _<_}

@@ -1,4 +1,5 @@
--- q in its place among the cleared rows: the rows below it are there, then q, and each turn puts one of the others behind.
+-- q in its place among the cleared rows: the rows below it are there, then q, and each turn puts one of the others
+-- behind.
 use mathlib.Core.List.{List, _∷_, _++_}
 use mathlib.Core.Path.{_≡_, ap, sym, _∙_}
 use Prim.Native.Nat.{ℕ, _+_, _-_, _<_, _≤_}

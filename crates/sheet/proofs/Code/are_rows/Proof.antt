@@ -1,5 +1,5 @@
--- Whether the rows of a family are lawful: at each place, what is asked of all rows is what is asked of those from there
--- on.
+-- Whether the rows of a family are lawful: at each place, what is asked of all rows is what is asked of those from
+-- there on.
 use mathlib.Core.Bool.{Bool, _&&_}
 use mathlib.Core.List.{List}
 use mathlib.Core.Logic.{⊎-elim}
