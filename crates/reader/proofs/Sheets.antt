@@ -3,8 +3,7 @@ use mathlib.Core.List.{List, [], _∷_}
 use mathlib.Core.Path.{_≡_, refl, ap, sym, subst, _∙_}
 use Prim.Native.Nat.{ℕ, suc, _+_, _-_, _*_, _<_, _≤_}
 use native.Mathlib.Omega.{arith}
-use lib.ListN.{length, take, drop, length-drop}
-use lib.Seq.{drop-drop}
+use lib.ListN.{length, drop}
 use Rattle.pauli.specs.declared.Pauli.{Pauli}
 use Rattle.sheet.specs.declared.Lines.{Lines}
 use Rattle.sheet.specs.declared.LinesReading.{LinesReading}
@@ -15,10 +14,9 @@ use Rattle.sheet.specs.Record.{logicalRoom, pairCount, filled, codeOf, firstGen
 use Rattle.sheet.specs.Record.{logicalCount, generatorsAt, logicalsAt, claimAt}
 use Rattle.sheet.specs.Statements.{ReadIsLawful}
 use Rattle.sheet.proofs.Limits.{limits}
-use Rattle.sheet.proofs.Parts.{tail-of}
 use Rattle.lines.proofs.Reading.{bytes-used, then-got, then-stop}
 use Rattle.reader.specs.Answers.{Reads, ReadsSheet, emptyBeside, beside, readIn, mapped, countedRows}
-use Rattle.reader.proofs.Reached.{reads-refused, reads-read, was-read, was-refused}
+use Rattle.reader.proofs.Reached.{reads-refused, reads-read}
 use Rattle.reader.proofs.RowLines.{mapped-stop, mapped-got}
 
 -- ---- the lines behind the g lines, with k pairs of logicals
@@ -156,27 +154,9 @@ module _ {s : List ℕ} {reading : LinesReading} {definition : Parsed SheetRead}
             ∙ ap (λ x. beside x (readIn reading)) (sym a);
       }
 
--- A reading of the bytes from a place on, as one of all bytes.
-pub sheet-on-tail : {reading : LinesReading} (reader : Reader SheetRead) (from : ℕ) (s : List ℕ)
-    → ReadsSheet (take (length s - from) (drop from s)) reading (reader (take (length s - from) (drop from s)))
-    → ReadsSheet (drop from s) reading (reader (drop from s))
-sheet-on-tail {reading} reader from s h = subst (λ t. ReadsSheet t reading (reader t)) (tail-of from s) h
-
-module _
-    (from : ℕ) (s : List ℕ) {reading : LinesReading} {rest definition : Parsed SheetRead}
-    (h : ReadsSheet (drop from s) reading rest)
-    (e : definition ≡ rest) where
-  pub sheet-refused-behind : {refusal : Refusal} → reading .answer ≡ Lines.Refused refusal
-      → ReadsSheet s reading definition
-  sheet-refused-behind a = record { reads = reads-refused a (e ∙ was-refused (h .reads) a); whole = h .whole }
-
-  pub sheet-read-behind : {more : ℕ} → from ≤ length s → reading .answer ≡ Lines.Read more
-      → ReadsSheet s
-      (record { answer = Lines.Read (from + more); «claim_at» = reading .«claim_at»; code = reading .code }) definition
-  sheet-read-behind {more} fits a =
-      let found = was-read (h .reads) a in
-      sheet-read refl (omega (arith, found .within, length-drop from s))
-      (e ∙ found .gives ∙ ap (got (readIn reading)) (drop-drop more from s))
+pub sheet-as : {s : List ℕ} {reading : LinesReading} {definition other : Parsed SheetRead} → definition ≡ other
+    → ReadsSheet s reading definition → ReadsSheet s reading other
+sheet-as {s} {reading} e h = subst (ReadsSheet s reading) e h
 
 -- So the reading is the definition's.
 pub is-answered : {s : List ℕ} {reading : LinesReading} {definition : Parsed SheetRead}

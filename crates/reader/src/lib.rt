@@ -12,7 +12,7 @@ use sheet::LinesReading;
 use sheet::Refusal;
 ghost use mathlib.Core.Path.{_≡_};
 ghost use Prim.Native.Nat.{_≤_, _<_};
-ghost use lib.ListN.{take};
+ghost use lib.ListN.{length, take, drop};
 ghost use Rattle.sheet.specs.Record.{mostQubits, logicalRoom, mostGenerators, firstGeneratorAt, rowKey};
 ghost use Rattle.sheet.specs.Reader.{rowsUpTo, generatorLines, logicalLines, linesAfter, sheetLines};
 ghost use Rattle.sheet.specs.Reader.{linesReading, formReading, behind};
@@ -142,19 +142,28 @@ fn refused(answer: Lines) -> LinesReading
     }
 }
 
-// The lines behind the g lines, from the line `at` on: x, z and w.
-fn lines_after(s: &[u8], n: usize, d: usize, at: usize, generators: Rows) -> LinesReading
+// The lines behind the g lines, from the byte `from` and the line `at` on: x, z and w.
+fn lines_after(
+    s: &[u8],
+    from: usize,
+    n: usize,
+    d: usize,
+    at: usize,
+    generators: Rows,
+) -> LinesReading
+    requires { ⌜ from ≤ length (now s) ⌝ }
     requires { ⌜ n ≤ mostQubits ⌝ }
     requires { ⌜ at < 50 ⌝ }
-    ensures { λ q. ⌜ ReadsAfter (now (s .entry)) generators (λ gs. linesAfter n d at gs (now (s .entry))) q ⌝ }
+    ensures { λ q. ⌜ ReadsAfter (now (s .entry)) generators (λ gs. linesAfter n d at gs (drop from (now (s .entry)))) q ⌝ }
 {
     let r = generators.count;
     let k = sheet::pair_count(n, r);
-    let xs = logical_lines(s, Family::LogicalX, n, k, at);
+    let xs = logical_lines(&s[from..], Family::LogicalX, n, k, at);
     let answer = xs.answer;
-    let Lines::Read { used: to_z } = answer else {
+    let Lines::Read { used: x_bytes } = answer else {
         return refused(answer);
     };
+    let to_z = from + x_bytes;
     let zs = logical_lines(&s[to_z..], Family::LogicalZ, n, k, at + k);
     let answer = zs.answer;
     let Lines::Read { used: z_bytes } = answer else {
@@ -211,17 +220,7 @@ fn sheet_lines(s: &[u8]) -> LinesReading
     };
     let to_x = to_g + g_bytes;
     let at = FIRST_GENERATOR_AT + generators.count;
-    let rest = lines_after(&s[to_x..], n, distance.number, at, generators);
-    let answer = rest.answer;
-    let Lines::Read { used: more } = answer else {
-        return rest;
-    };
-    let code = rest.code;
-    LinesReading {
-        answer: Lines::Read { used: to_x + more },
-        claim_at: rest.claim_at,
-        code,
-    }
+    lines_after(s, to_x, n, distance.number, at, generators)
 }
 
 // The lines of a sheet with anything behind them, as a report has them.

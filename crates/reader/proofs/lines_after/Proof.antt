@@ -12,7 +12,7 @@ use Rattle.sheet.specs.Record.{mostQubits, logicalRoom, pairCount, filled}
 use Rattle.sheet.proofs.Parts.{tail-of}
 use Rattle.lines.specs.Answers.{rowAnswer, withinQubits}
 use Rattle.reader.specs.Answers.{Reads, mapped, countedRows}
-use Rattle.reader.proofs.Reached.{Reached, was-read, was-refused, on-tail, reached-more, claim-reads}
+use Rattle.reader.proofs.Reached.{Reached, was-refused, on-tail, reached-more, claim-reads}
 use Rattle.reader.proofs.Sheets.{x-refused, z-refused, w-refused, w-read, sheet-refused, sheet-read}
 use Rattle.reader.proofs.lines_after.Statement.{statement}
 use Rattle.reader.proofs.lines_after.Tie as tie
@@ -36,7 +36,7 @@ k c = c .pair-count .result
 
 few : (c : tie.After-pair-count) → k c ≤ mostQubits
 unfolding pairCount
-few c = omega (arith, c .pair-count .ensures, first c .pre .0)
+few c = omega (arith, c .pair-count .ensures, first c .pre .1 .0)
 
 abbrev x-lines : tie.After-pair-count → Reader (List Pauli)
 x-lines c t = mapped (filled logicalRoom) (logicalLines (k c) "x=" (n c) (at c) t)
@@ -55,16 +55,28 @@ paired c gs e = ap (λ p. pairCount (n c) (p .0)) e ∙ sym (c .pair-count .ensu
 
 -- ---- x
 
-abbrev start-x : tie.After-answer → tie.After-pair-count
-start-x c = c .before .before .before
+abbrev start-x : tie.After-logical-lines → tie.After-pair-count
+start-x c = c .before .before
+
+abbrev bytes-x : tie.After-logical-lines → List ℕ
+bytes-x c = drop (first (start-x c) .args .from) (s (start-x c))
+
+x-answer : (c : tie.After-logical-lines)
+    → Reads (bytes-x c) (c .logical-lines .result .answer) (c .logical-lines .result .rows)
+    (x-lines (start-x c) (bytes-x c))
+x-answer c =
+    on-tail (x-lines (start-x c)) (first (start-x c) .args .from) (s (start-x c)) (c .logical-lines .ensures)
+
+abbrev start-of-x : tie.After-answer → tie.After-pair-count
+start-of-x c = start-x (c .before .before)
 
 abbrev to-z : tie.After-answer → ℕ
-to-z c = c .answer .given .0 .0
+to-z c = first (start-of-x c) .args .from + c .answer .given .0 .0
 
 x-read : (c : tie.After-answer)
-    → Reached (s (start-x c)) (to-z c) (c .before .before .logical-lines .result .rows)
-    (x-lines (start-x c) (s (start-x c)))
-x-read c = was-read (c .before .before .logical-lines .ensures) (c .answer .given .1)
+    → Reached (s (start-of-x c)) (to-z c) (c .before .before .logical-lines .result .rows)
+    (x-lines (start-of-x c) (bytes-x (c .before .before)))
+x-read c = reached-more (first (start-of-x c) .pre .0) (x-answer (c .before .before)) (c .answer .given .1)
 
 -- ---- z
 
@@ -72,19 +84,20 @@ abbrev behind-x : tie.After-logical-lines2 → tie.After-answer
 behind-x c = c .before .before .before
 
 abbrev bytes-z : tie.After-logical-lines2 → List ℕ
-bytes-z c = drop (to-z (behind-x c)) (s (start-x (behind-x c)))
+bytes-z c = drop (to-z (behind-x c)) (s (start-of-x (behind-x c)))
 
 z-answer : (c : tie.After-logical-lines2)
     → Reads (bytes-z c) (c .logical-lines2 .result .answer) (c .logical-lines2 .result .rows)
-    (z-lines (start-x (behind-x c)) (bytes-z c))
+    (z-lines (start-of-x (behind-x c)) (bytes-z c))
 z-answer c =
-    on-tail (z-lines (start-x (behind-x c))) (to-z (behind-x c)) (s (start-x (behind-x c))) (c .logical-lines2 .ensures)
+    on-tail (z-lines (start-of-x (behind-x c))) (to-z (behind-x c)) (s (start-of-x (behind-x c)))
+    (c .logical-lines2 .ensures)
 
 abbrev x-of-z : tie.After-answer2 → tie.After-answer
 x-of-z c = behind-x (c .before .before)
 
 abbrev start-z : tie.After-answer2 → tie.After-pair-count
-start-z c = start-x (x-of-z c)
+start-z c = start-of-x (x-of-z c)
 
 abbrev to-w : tie.After-answer2 → ℕ
 to-w c = to-z (x-of-z c) + c .answer2 .given .0 .0
@@ -110,7 +123,7 @@ w-answer : (c : tie.After-claim-line)
 w-answer c =
     let begin = start-w c in
     let line = at begin + 2 * k begin in
-    claim-reads (n begin) line (bytes-w c) (first begin .pre .0)
+    claim-reads (n begin) line (bytes-w c) (first begin .pre .1 .0)
     (c .claim-line .ensures
     ∙ ap (λ t. rowAnswer t (withinQubits (n begin) line (claimLine (n begin) line) t))
     (tail-of (to-w (behind-z c)) (s begin)))
@@ -129,36 +142,42 @@ claim-read c = reached-more (z-read (z-of-w c) .within) (w-answer (c .before .be
 -- ---- the needs
 
 logical-lines-requires : tie.Need-logical-lines-requires
-logical-lines-requires c κs = (first c .pre .0, (few c, omega (arith, first c .pre .1)))
+logical-lines-requires c κs =
+    let begin = c .before in (first begin .pre .1 .0, (few begin, omega (arith, first begin .pre .1 .1)))
 
 returns : tie.Need-returns
 returns c =
     let found = c .before .before .before in
-    let begin = found .before in
+    let begin = start-x found in
     λ gs e. sheet-refused (c .refused .ensures) (c .before .enum-told .given .1)
-    (x-refused (n begin) (first begin .args .d) (at begin) gs (k begin) (paired begin gs e) (s begin)
-    (was-refused (found .logical-lines .ensures) (c .before .enum-told .given .1)))
+    (x-refused (n begin) (first begin .args .d) (at begin) gs (k begin) (paired begin gs e) (bytes-x found)
+    (was-refused (x-answer found) (c .before .enum-told .given .1)))
 
-sub-logical-lines : tie.Need-sub-logical-lines
-sub-logical-lines c = x-read (c .before) .within
+add-to-z : tie.Need-add-to-z
+add-to-z c = record { fits = lt-of-le-of-lt (x-read (c .before) .within) (first (start-of-x (c .before)) .good .0 .0) }
 
-part-logical-lines-start : tie.Need-part-logical-lines-start
-part-logical-lines-start c = x-read (c .before) .within
+sub-logical-lines-2 : tie.Need-sub-logical-lines-2
+sub-logical-lines-2 c = x-read (c .before) .within
+
+part-logical-lines-start-2 : tie.Need-part-logical-lines-start-2
+part-logical-lines-start-2 c = x-read (c .before) .within
 
 add-logical-lines : tie.Need-add-logical-lines
-add-logical-lines c = let begin = start-x (c .before .before) in omega (arith, few begin, first begin .pre .1)
+add-logical-lines c =
+    let begin = start-of-x (c .before .before) in omega (arith, few begin, first begin .pre .1 .1)
 
 logical-lines-requires-2 : tie.Need-logical-lines-requires-2
 logical-lines-requires-2 c κs =
-    let begin = start-x (c .before .before) in
-    (first begin .pre .0, (few begin, omega (arith, few begin, first begin .pre .1)))
+    let begin = start-of-x (c .before .before) in
+    (first begin .pre .1 .0, (few begin, omega (arith, few begin, first begin .pre .1 .1)))
 
 returns-2 : tie.Need-returns-2
 returns-2 c =
     let found = c .before .before .before in
-    let begin = start-x (behind-x found) in
+    let begin = start-of-x (behind-x found) in
     λ gs e. sheet-refused (c .refused2 .ensures) (c .before .enum-told2 .given .1)
-    (z-refused (n begin) (first begin .args .d) (at begin) gs (k begin) (paired begin gs e) (s begin)
+    (z-refused (n begin) (first begin .args .d) (at begin) gs (k begin) (paired begin gs e)
+    (bytes-x (behind-x found .before .before))
     (x-read (behind-x found) .gives)
     (was-refused (z-answer found) (c .before .enum-told2 .given .1)))
 
@@ -169,7 +188,7 @@ mul-claim-at : tie.Need-mul-claim-at
 mul-claim-at c = omega (arith, few (start-z (c .before)))
 
 add-claim-at : tie.Need-add-claim-at
-add-claim-at c = let begin = start-z (c .before) in omega (arith, few begin, first begin .pre .1)
+add-claim-at c = let begin = start-z (c .before) in omega (arith, few begin, first begin .pre .1 .1)
 
 sub-claim-line : tie.Need-sub-claim-line
 sub-claim-line c = z-read (c .before) .within
@@ -182,12 +201,13 @@ returns-3 c =
     let found = c .before .before .before in
     let begin = start-w found in
     λ gs e. sheet-refused (c .refused3 .ensures) (c .before .enum-told3 .given .1)
-    (w-refused (n begin) (first begin .args .d) (at begin) gs (k begin) (paired begin gs e) (s begin)
+    (w-refused (n begin) (first begin .args .d) (at begin) gs (k begin) (paired begin gs e)
+    (bytes-x (x-of-z (behind-z found) .before .before))
     (x-read (x-of-z (behind-z found)) .gives)
     (z-read (behind-z found) .gives) (was-refused (w-answer found) (c .before .enum-told3 .given .1)))
 
-add-t25 : tie.Need-add-t25
-add-t25 c =
+add-t26 : tie.Need-add-t26
+add-t26 c =
     let found = c .before .before .before .before .before in
     record { fits = lt-of-le-of-lt (claim-read found .within) (first (start-end found) .good .0 .0) }
 
@@ -196,7 +216,8 @@ returns-4 c =
     let found = c .before .before .before .before .before in
     let begin = start-end found in
     λ gs e. sheet-read refl (claim-read found .within)
-    (w-read (n begin) (first begin .args .d) (at begin) gs (k begin) (paired begin gs e) (s begin)
+    (w-read (n begin) (first begin .args .d) (at begin) gs (k begin) (paired begin gs e)
+    (bytes-x (x-of-z (z-of-w found) .before .before))
     (x-read (x-of-z (z-of-w found)) .gives)
     (z-read (z-of-w found) .gives) e (claim-read found .gives))
 
@@ -205,13 +226,17 @@ lines-after-spec =
     tie.close
     (tie.spec
     (λ c κs. search needs)
+    (λ c. search needs)
+    (λ c. search needs)
+    (λ c. search needs)
     logical-lines-requires
     (λ c. search needs)
     (λ c. search needs)
     (λ c κs. search needs)
     returns
-    sub-logical-lines
-    part-logical-lines-start
+    add-to-z
+    sub-logical-lines-2
+    part-logical-lines-start-2
     (λ c. search needs)
     add-logical-lines
     logical-lines-requires-2
@@ -230,5 +255,5 @@ lines-after-spec =
     (λ c. search needs)
     (λ c κs. search needs)
     returns-3
-    add-t25
+    add-t26
     returns-4)

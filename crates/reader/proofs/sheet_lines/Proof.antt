@@ -1,7 +1,7 @@
 -- n, d, the g lines and what follows them in turn; each that is refused ends it. What is known behind each line has a
 -- name.
 use mathlib.Core.List.{List}
-use mathlib.Core.Path.{_≡_, ap, _∙_}
+use mathlib.Core.Path.{_≡_, ap, sym, _∙_}
 use Prim.Native.Nat.{ℕ, _+_, _≤_}
 use native.Mathlib.Omega.{arith}
 use native.Mathlib.Nat.{lt-of-le-of-lt}
@@ -14,10 +14,9 @@ use Rattle.sheet.proofs.Outcome.{what-was-got}
 use Rattle.sheet.proofs.Consumed.{qubit-line-outcome, distance-line-outcome}
 use Rattle.sheet.proofs.Parts.{tail-of}
 use Rattle.lines.specs.Answers.{numberAnswer}
-use Rattle.reader.specs.Answers.{Reads, ReadsSheet, mapped, countedRows}
+use Rattle.reader.specs.Answers.{Reads, mapped, countedRows}
 use Rattle.reader.proofs.Reached.{Reached, was-read, was-refused, on-tail, reached-more, number-reads}
-use Rattle.reader.proofs.Sheets.{n-refused, d-refused, g-refused, g-read, sheet-refused, sheet-on-tail}
-use Rattle.reader.proofs.Sheets.{sheet-refused-behind, sheet-read-behind}
+use Rattle.reader.proofs.Sheets.{n-refused, d-refused, g-refused, g-read, sheet-refused, sheet-as}
 use Rattle.reader.proofs.sheet_lines.Statement.{statement}
 use Rattle.reader.proofs.sheet_lines.Tie as tie
 
@@ -125,17 +124,6 @@ to-tail : (c : tie.After-answer3)
     (sheetLines (s (n-of-g c)) ≡ tail c gs (bytes-x c))
 to-tail c = g-read (s (n-of-g c)) (n-read (n-of-g c) .gives) (d-read (d-of-g c) .gives) (generators-read c .gives)
 
-abbrev behind-g : tie.After-lines-after → tie.After-answer3
-behind-g c = c .before .before .before .before
-
-tail-reading : (c : tie.After-lines-after)
-    → ReadsSheet (bytes-x (behind-g c)) (c .lines-after .result)
-    (tail (behind-g c) (to-tail (behind-g c) .0) (bytes-x (behind-g c)))
-tail-reading c =
-    let gs = to-tail (behind-g c) in
-    sheet-on-tail (tail (behind-g c) (gs .0)) (to-x (behind-g c)) (s (n-of-g (behind-g c)))
-    (c .lines-after .ensures (gs .0) (gs .1))
-
 -- ---- the needs
 
 returns : tie.Need-returns
@@ -181,40 +169,15 @@ add-to-x c =
 add-at : tie.Need-add-at
 add-at c = omega (arith, generators-few (c .before .before))
 
-sub-lines-after : tie.Need-sub-lines-after
-sub-lines-after c = generators-read (c .before .before) .within
-
-part-lines-after-start : tie.Need-part-lines-after-start
-part-lines-after-start c = generators-read (c .before .before) .within
-
 lines-after-requires : tie.Need-lines-after-requires
 lines-after-requires c κs =
-    let behind = c .before .before .before in (few (n-of-g behind) .1, omega (arith, generators-few behind))
+    let behind = c .before .before in
+    (generators-read behind .within, (few (n-of-g behind) .1, omega (arith, generators-few behind)))
 
 returns-4 : tie.Need-returns-4
 returns-4 c =
-    let found = c .before .before in
-    sheet-refused-behind (to-x (behind-g found)) _ (tail-reading found) (to-tail (behind-g found) .2)
-    (c .enum-told4 .given .1)
-
-add-t20 : tie.Need-add-t20
-add-t20 c =
-    let found = c .before .before .before .before in
-    let behind = behind-g found in
-    record {
-      fits =
-          lt-of-le-of-lt
-          (reached-more (generators-read behind .within) (tail-reading found .reads)
-          (c .before .before .answer4 .given .1) .within)
-          (start (n-of-g behind) .good .0 .0);
-    }
-
-returns-5 : tie.Need-returns-5
-returns-5 c =
-    let found = c .before .before .before .before in
-    let behind = behind-g found in
-    sheet-read-behind (to-x behind) _ (tail-reading found) (to-tail behind .2) (generators-read behind .within)
-    (c .before .before .answer4 .given .1)
+    let found = to-tail (c .before .before .before) in
+    sheet-as (sym (found .2)) (c .lines-after .ensures (found .0) (found .1))
 
 pub sheet-lines-spec : {M : Type 1} → statement M
 sheet-lines-spec =
@@ -244,12 +207,5 @@ sheet-lines-spec =
     returns-3
     add-to-x
     add-at
-    sub-lines-after
-    part-lines-after-start
-    (λ c. search needs)
     lines-after-requires
-    (λ c. search needs)
-    (λ c. search needs)
-    returns-4
-    add-t20
-    returns-5)
+    returns-4)
