@@ -1,6 +1,5 @@
 -- What is stated of lines that are written by themselves: their texts are the sheet's by definition, and the two calls
 -- are `written` with their checks, so the laws of every such call hold of them.
-use mathlib.Core.List.{_∷_}
 use mathlib.Core.Path.{refl}
 use Rattle.pauli.specs.Lists.{anyOf}
 use Rattle.sheet.specs.Text.{line}
