@@ -1,10 +1,8 @@
 -- Membership in a record's group: with its sign, from what the canonical generators leave of the row + with the given
 -- masks, and phase aside.
 use mathlib.Core.Bool.{Bool, true, false, cond, not}
-use mathlib.Core.List.{List}
-use mathlib.Core.Option.{Option, none, some}
+use mathlib.Core.Option.{none, some}
 use mathlib.Core.Path.{_≡_, refl, ap, ap₂, sym, _∙_}
-use Prim.Native.Nat.{ℕ}
 use lib.ListN.{take}
 use borrow.Author.Tests.{not-false}
 use Rattle.pauli.specs.declared.Pauli.{Pauli}
@@ -17,7 +15,7 @@ use Rattle.sheet.specs.Record.{isRow, onQubits, generators, generatorsAt, withi
 use Rattle.sheet.proofs.Limits.{limits}
 use Rattle.stabilizer.specs.Canonical.{reduced, reducesToIdentity, canonicalGenerators}
 use Rattle.stabilizer.specs.Checks.{minusIdentity, generatorFault, groupFault}
-use Rattle.stabilizer.specs.Group.{inGroupUpToPhase, memberSign}
+use Rattle.stabilizer.specs.Group.{memberSign}
 use Rattle.stabilizer.proofs.All.{all-of}
 use Rattle.stabilizer.proofs.Faults.{reducedSign, nothing-then, unrefused, faultless-independent, member-sign-reduced}
 use Rattle.stabilizer.proofs.Independent.{Independent}

@@ -11,7 +11,7 @@ use Rattle.pauli.specs.declared.Pauli.{Pauli}
 use Rattle.pauli.specs.Product.{identity, sameMasks, samePauli}
 use Rattle.sheet.specs.declared.Family.{Family}
 use Rattle.sheet.specs.declared.Refusal.{Refusal}
-use Rattle.sheet.specs.Record.{isRow, generatorsAt}
+use Rattle.sheet.specs.Record.{isRow}
 use Rattle.sheet.specs.Refusals.{_then_}
 use Rattle.stabilizer.specs.Canonical.{reduced, reducesToIdentity, added, canonicalGenerators}
 use Rattle.stabilizer.specs.Checks.{minusIdentity, firstFault, dependence}

@@ -13,16 +13,15 @@ use borrow.Author.Tests.{eq-eqb, not-false}
 use Rattle.pauli.specs.declared.Pauli.{Pauli}
 use Rattle.pauli.specs.declared.Sign.{Sign}
 use Rattle.pauli.specs.declared.Sign.the-variants.{Plus, Minus}
-use Rattle.pauli.specs.Letters.{rowPhase, rowOf, signedRow, lettersOf, hasSign, isSignedRow, signOf}
+use Rattle.pauli.specs.Letters.{rowPhase, rowOf, hasSign, isSignedRow}
 use Rattle.pauli.specs.Lists.{anyOf}
 use Rattle.pauli.specs.Masks.{dot}
-use Rattle.pauli.specs.Definitions.{definitions}
 use Rattle.pauli.specs.Product.{identity, product, commutes, anticommutes, symplectic, modulo4, hasPhase, sameMasks}
 use Rattle.pauli.specs.Product.{samePauli}
 use Rattle.pauli.proofs.Masks.{countOnes-zero, dot-comm}
 use Rattle.pauli.proofs.Modulo.{same-remainder}
 use Rattle.pauli.proofs.Product.{same-parts}
-use Rattle.pauli.proofs.Rows.{row-returns, rows-product}
+use Rattle.pauli.proofs.Rows.{rows-product}
 use Rattle.sheet.specs.declared.Family.{Family}
 use Rattle.sheet.specs.declared.Refusal.{Refusal}
 use Rattle.sheet.specs.Record.{isRow}

@@ -6,10 +6,9 @@ use mathlib.Core.List.{List, [], _∷_, _++_, map, foldl-append}
 use mathlib.Core.Logic.{_↔_, Iff·rfl, Iff·symm, Iff·trans}
 use mathlib.Core.Path.{_≡_, refl, ap, ap₂, sym, _∙_}
 use Prim.Native.Nat.{ℕ}
-use native.Mathlib.Nat.{mod-eq-of-lt}
 use Rattle.pauli.specs.declared.Pauli.{Pauli}
 use Rattle.pauli.specs.Product.{identity, product, modulo4, sameMasks}
-use Rattle.pauli.proofs.Product.{pauli, same-parts, product-assoc, product-identity-l, product-phase-lt}
+use Rattle.pauli.proofs.Product.{pauli, product-assoc, product-identity-l}
 use Rattle.sheet.specs.Record.{onQubits}
 use Rattle.stabilizer.specs.Canonical.{column, pivot, cleared, reduced, reducesToIdentity, insertByPivot, added}
 use Rattle.stabilizer.specs.Canonical.{canonicalGenerators}

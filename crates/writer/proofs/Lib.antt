@@ -2,5 +2,6 @@
 pub mod Laid
 pub mod Numbers
 pub mod Lines
+pub mod LineCalls
 pub mod Rows
 pub mod Sheet

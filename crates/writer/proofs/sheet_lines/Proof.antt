@@ -1,17 +1,17 @@
 -- Behind each call the slice holds the lines up to there, and `end` is their length: every call lays one more part of
 -- the sheet behind what is there.
-use mathlib.Core.List.{List, [], _∷_, _++_}
+use mathlib.Core.List.{List, _++_}
 use mathlib.Core.Path.{_≡_, refl, ap, _∙_}
 use Prim.Native.Nat.{ℕ, _+_, _^_, _≤_, _<_}
 use native.Mathlib.Omega.{arith}
 use lib.ListN.{length}
 use Rattle.sheet.specs.declared.Code.{Code}
-use Rattle.sheet.specs.declared.Family.the-variants.{Generator, LogicalX, LogicalZ}
+use Rattle.sheet.specs.declared.Family.the-variants.{LogicalX, LogicalZ}
 use Rattle.sheet.specs.Record.{pairCount}
 use Rattle.sheet.specs.Text.{laid}
 use Rattle.sheet.proofs.Limits.{Limits, limits}
 use Rattle.sheet.proofs.ArrayLengths.{sized-of}
-use Rattle.writer.specs.Lines.{numberText, familyText, claimText}
+use Rattle.writer.specs.Lines.{familyText}
 use Rattle.writer.proofs.Laid.{lent, back, Holds, end-within, room-behind, holds-as, holds-more}
 use Rattle.writer.proofs.Sheet.{toN, toD, toG, toX, toZ, toW, sheet-parts, Room, room}
 use borrow.Author.Needs.{needs}

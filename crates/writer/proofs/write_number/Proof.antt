@@ -1,6 +1,6 @@
 -- The call for one number answers as `writeNumber` says: 17 where the key or the line has no room, or the line.
 use mathlib.Core.Path.{ap, sym, _∙_}
-use Prim.Native.Nat.{_+_, _<_, _≤_}
+use Prim.Native.Nat.{_<_, _≤_}
 use native.Mathlib.Omega.{arith}
 use lib.ListN.{length}
 use Rattle.sheet.specs.declared.Written.{Written}
