@@ -1,6 +1,6 @@
 -- The lines of a sheet one after the other: what each makes of the reading, and what stands beside the answer.
 use mathlib.Core.List.{List, [], _∷_}
-use mathlib.Core.Path.{_≡_, refl, ap, sym, subst, _∙_}
+use mathlib.Core.Path.{_≡_, refl, ap, sym, _∙_}
 use Prim.Native.Nat.{ℕ, suc, _+_, _-_, _*_, _<_, _≤_}
 use native.Mathlib.Omega.{arith}
 use lib.ListN.{length, drop}
@@ -15,8 +15,7 @@ use Rattle.sheet.specs.Record.{logicalCount, generatorsAt, logicalsAt, claimAt}
 use Rattle.sheet.specs.Statements.{ReadIsLawful}
 use Rattle.sheet.proofs.Limits.{limits}
 use Rattle.lines.proofs.Reading.{bytes-used, then-got, then-stop}
-use Rattle.reader.specs.Answers.{Reads, ReadsSheet, emptyBeside, beside, readIn, mapped, countedRows}
-use Rattle.reader.proofs.Reached.{reads-refused, reads-read}
+use Rattle.reader.specs.Answers.{emptyBeside, mapped, countedRows}
 use Rattle.reader.proofs.RowLines.{mapped-stop, mapped-got}
 
 -- ---- the lines behind the g lines, with k pairs of logicals
@@ -133,44 +132,20 @@ module _ (s : List ℕ) where
                 ∙ ap (λ m. linesAfter n d (firstGeneratorAt + m) (found .0) v) (ap (λ p. p .0) (found .2)),
           )
 
--- ---- what stands beside the answer
+-- ---- the reading of a whole sheet
 
-module _ {s : List ℕ} {reading : LinesReading} {definition : Parsed SheetRead} where
-  pub sheet-refused : {answer : Lines} {refusal : Refusal} → reading ≡ emptyBeside answer
-      → answer ≡ Lines.Refused refusal
-      → definition ≡ stop refusal → ReadsSheet s reading definition
-  sheet-refused r a e =
-      let b = ap (λ x. x .answer) r ∙ a in
-      record { reads = reads-refused b e; whole = r ∙ ap emptyBeside a ∙ ap (λ x. beside x (readIn reading)) (sym b) }
+module _ (s : List ℕ) {definition : Parsed SheetRead} where
+  pub sheet-refused : {reading : LinesReading} {answer : Lines} {refusal : Refusal} → reading ≡ emptyBeside answer
+      → answer ≡ Lines.Refused refusal → definition ≡ stop refusal → reading ≡ answered s definition
+  unfolding answered
+  sheet-refused r a e = r ∙ ap emptyBeside a ∙ ap (answered s) (sym e)
 
-  pub sheet-read : {used : ℕ} → reading .answer ≡ Lines.Read used → used ≤ length s
-      → definition ≡ got (readIn reading) (drop used s)
-      → ReadsSheet s reading definition
-  sheet-read a h e =
-      record {
-        reads = reads-read a h e;
-        whole =
-            (λ i. record { answer = a i; «claim_at» = reading .«claim_at»; code = reading .code })
-            ∙ ap (λ x. beside x (readIn reading)) (sym a);
-      }
-
-pub sheet-as : {s : List ℕ} {reading : LinesReading} {definition other : Parsed SheetRead} → definition ≡ other
-    → ReadsSheet s reading definition → ReadsSheet s reading other
-sheet-as {s} {reading} e h = subst (ReadsSheet s reading) e h
-
--- So the reading is the definition's.
-pub is-answered : {s : List ℕ} {reading : LinesReading} {definition : Parsed SheetRead}
-    → ReadsSheet s reading definition
-    → reading ≡ answered s definition
-unfolding answered
-is-answered {s} {reading} {definition} h = h .whole ∙ by-answer (reading .answer) (readIn reading) (h .reads)
-  where
-    by-answer : (answer : Lines) (q : SheetRead) → Reads s answer q definition → beside answer q ≡ answered s definition
-    by-answer (Lines.Read used) q p =
-        ap (λ m. record { answer = Lines.Read m; «claim_at» = q .claimAt; code = q .code })
-        (bytes-used s used (p .within))
-        ∙ ap (answered s) (p .parses)
-    by-answer (Lines.Refused refusal) q p = ap (answered s) (p .parses)
+  pub sheet-read : {used : ℕ} {q : SheetRead} → used ≤ length s → definition ≡ got q (drop used s)
+      → record { answer = Lines.Read used; «claim_at» = q .claimAt; code = q .code } ≡ answered s definition
+  unfolding answered
+  sheet-read {used} {q} h e =
+      ap (λ m. record { answer = Lines.Read m; «claim_at» = q .claimAt; code = q .code }) (bytes-used s used h)
+      ∙ ap (answered s) (sym e)
 
 -- ---- a sheet by itself
 

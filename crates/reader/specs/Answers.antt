@@ -6,7 +6,7 @@ use lib.ListN.{length, drop}
 use Rattle.pauli.specs.declared.Pauli.{Pauli}
 use Rattle.sheet.specs.declared.Lines.{Lines}
 use Rattle.sheet.specs.declared.LinesReading.{LinesReading}
-use Rattle.sheet.specs.Reader.{Parsed, SheetRead, got, stop, done, continue}
+use Rattle.sheet.specs.Reader.{Parsed, Reader, SheetRead, got, stop, done, continue, answered}
 use Rattle.sheet.specs.Record.{generatorRoom, logicalRoom, filled, emptyCode}
 use Rattle.reader.specs.declared.Rows.{Rows}
 use Rattle.reader.specs.declared.Logicals.{Logicals}
@@ -40,22 +40,12 @@ ReadsRows s r definition = Reads s (r .answer) (r .count, r .rows) (mapped count
 abbrev pub ReadsLogicals : List ℕ → Logicals → Parsed (List Pauli) → Type 0
 ReadsLogicals s r definition = Reads s (r .answer) (r .rows) (mapped (filled logicalRoom) definition)
 
--- What stands beside the answer for a whole sheet: the line of w and the record; nothing where it is a refusal.
+-- A refused reading: the empty record stands beside the refusal.
 abbrev pub emptyBeside : Lines → LinesReading
 emptyBeside answer = record { answer = answer; «claim_at» = 0; code = emptyCode }
 
-abbrev pub beside : Lines → SheetRead → LinesReading
-beside (Lines.Read used) q = record { answer = Lines.Read used; «claim_at» = q .claimAt; code = q .code }
-beside (Lines.Refused refusal) q = emptyBeside (Lines.Refused refusal)
-
-abbrev pub readIn : LinesReading → SheetRead
-readIn reading = record { code = reading .code; claimAt = reading .«claim_at» }
-
-pub record ReadsSheet (s : List ℕ) (reading : LinesReading) (definition : Parsed SheetRead) : Type 0 where
-  pub reads : Reads s (reading .answer) (readIn reading) definition
-  pub whole : reading ≡ beside (reading .answer) (readIn reading)
-
--- The lines behind the g lines, for whichever rows the array holds.
-abbrev pub ReadsAfter : List ℕ → Rows → (List Pauli → Parsed SheetRead) → LinesReading → Type 0
-ReadsAfter s generators definition reading =
-    (gs : List Pauli) → countedRows gs ≡ (generators .count, generators .rows) → ReadsSheet s reading (definition gs)
+-- What is read from a byte on, behind the rows that the array holds.
+abbrev pub ReadsAfter : List ℕ → ℕ → Rows → (List Pauli → Reader SheetRead) → LinesReading → Type 0
+ReadsAfter s from generators after reading =
+    (gs : List Pauli) → countedRows gs ≡ (generators .count, generators .rows) → reading ≡ answered s
+    (after gs (drop from s))

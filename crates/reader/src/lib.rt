@@ -12,11 +12,11 @@ use sheet::LinesReading;
 use sheet::Refusal;
 ghost use mathlib.Core.Path.{_≡_};
 ghost use Prim.Native.Nat.{_≤_, _<_};
-ghost use lib.ListN.{length, take, drop};
+ghost use lib.ListN.{length, take};
 ghost use Rattle.sheet.specs.Record.{mostQubits, logicalRoom, mostGenerators, firstGeneratorAt, rowKey};
 ghost use Rattle.sheet.specs.Reader.{rowsUpTo, generatorLines, logicalLines, linesAfter, sheetLines};
-ghost use Rattle.sheet.specs.Reader.{linesReading, formReading, behind};
-ghost use Rattle.reader.specs.Answers.{ReadsRows, ReadsLogicals, emptyBeside, ReadsSheet, ReadsAfter};
+ghost use Rattle.sheet.specs.Reader.{answered, linesReading, formReading, behind};
+ghost use Rattle.reader.specs.Answers.{ReadsRows, ReadsLogicals, emptyBeside, ReadsAfter};
 
 // The rows that lines one after the other have: the answer of their reader, how many there are, and the rows.
 struct Rows {
@@ -154,7 +154,7 @@ fn lines_after(
     requires { ⌜ from ≤ length (now s) ⌝ }
     requires { ⌜ n ≤ mostQubits ⌝ }
     requires { ⌜ at < 50 ⌝ }
-    ensures { λ q. ⌜ ReadsAfter (now (s .entry)) generators (λ gs. linesAfter n d at gs (drop from (now (s .entry)))) q ⌝ }
+    ensures { λ q. ⌜ ReadsAfter (now (s .entry)) from generators (linesAfter n d at) q ⌝ }
 {
     let r = generators.count;
     let k = sheet::pair_count(n, r);
@@ -199,7 +199,7 @@ fn lines_after(
 
 // The lines of a sheet, in their order.
 fn sheet_lines(s: &[u8]) -> LinesReading
-    ensures { λ r. ⌜ ReadsSheet (now (s .entry)) r (sheetLines (now (s .entry))) ⌝ }
+    ensures { λ r. ⌜ r ≡ answered (now (s .entry)) (sheetLines (now (s .entry))) ⌝ }
 {
     let qubits = lines::qubit_line(s);
     let answer = qubits.answer;

@@ -1,6 +1,6 @@
 -- x, z and w in turn; each that is refused ends it. What is known behind each has a name.
 use mathlib.Core.List.{List}
-use mathlib.Core.Path.{_≡_, refl, ap, sym, _∙_}
+use mathlib.Core.Path.{_≡_, ap, sym, _∙_}
 use Prim.Native.Nat.{ℕ, _+_, _*_, _≤_}
 use native.Mathlib.Nat.{lt-of-le-of-lt}
 use native.Mathlib.Omega.{arith}
@@ -149,7 +149,7 @@ returns : tie.Need-returns
 returns c =
     let found = c .before .before .before in
     let begin = start-x found in
-    λ gs e. sheet-refused (c .refused .ensures) (c .before .enum-told .given .1)
+    λ gs e. sheet-refused _ (c .refused .ensures) (c .before .enum-told .given .1)
     (x-refused (n begin) (first begin .args .d) (at begin) gs (k begin) (paired begin gs e) (bytes-x found)
     (was-refused (x-answer found) (c .before .enum-told .given .1)))
 
@@ -175,7 +175,7 @@ returns-2 : tie.Need-returns-2
 returns-2 c =
     let found = c .before .before .before in
     let begin = start-of-x (behind-x found) in
-    λ gs e. sheet-refused (c .refused2 .ensures) (c .before .enum-told2 .given .1)
+    λ gs e. sheet-refused _ (c .refused2 .ensures) (c .before .enum-told2 .given .1)
     (z-refused (n begin) (first begin .args .d) (at begin) gs (k begin) (paired begin gs e)
     (bytes-x (behind-x found .before .before))
     (x-read (behind-x found) .gives)
@@ -200,7 +200,7 @@ returns-3 : tie.Need-returns-3
 returns-3 c =
     let found = c .before .before .before in
     let begin = start-w found in
-    λ gs e. sheet-refused (c .refused3 .ensures) (c .before .enum-told3 .given .1)
+    λ gs e. sheet-refused _ (c .refused3 .ensures) (c .before .enum-told3 .given .1)
     (w-refused (n begin) (first begin .args .d) (at begin) gs (k begin) (paired begin gs e)
     (bytes-x (x-of-z (behind-z found) .before .before))
     (x-read (x-of-z (behind-z found)) .gives)
@@ -215,7 +215,7 @@ returns-4 : tie.Need-returns-4
 returns-4 c =
     let found = c .before .before .before .before .before in
     let begin = start-end found in
-    λ gs e. sheet-read refl (claim-read found .within)
+    λ gs e. sheet-read _ (claim-read found .within)
     (w-read (n begin) (first begin .args .d) (at begin) gs (k begin) (paired begin gs e)
     (bytes-x (x-of-z (z-of-w found) .before .before))
     (x-read (x-of-z (z-of-w found)) .gives)

@@ -5,7 +5,6 @@ use borrow.Author.Tests.{lt-ltb, le-ltb}
 use lib.ListN.{length}
 use Rattle.sheet.specs.declared.Refusal.{Refusal}
 use Rattle.sheet.specs.Reader.{stop, sheetLines, readLines, answered, linesReading}
-use Rattle.reader.proofs.Sheets.{is-answered}
 use borrow.Author.Needs.{needs}
 use Rattle.reader.proofs.read_lines.Statement.{statement}
 use Rattle.reader.proofs.read_lines.Tie as tie
@@ -22,7 +21,7 @@ returns-2 : tie.Need-returns-2
 unfolding linesReading readLines
 returns-2 c =
     let s = c .before .before .before .args .s .now in
-    is-answered (c .sheet-lines .ensures)
+    c .sheet-lines .ensures
     ∙ ap (λ b. answered s (cond b (stop Refusal.TooLong) (sheetLines s)))
     (sym (le-ltb 4096 (length s) (c .before .if1 .left)))
 

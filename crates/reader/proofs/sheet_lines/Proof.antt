@@ -9,6 +9,7 @@ use borrow.Author.Needs.{needs}
 use lib.ListN.{drop}
 use Rattle.pauli.specs.declared.Pauli.{Pauli}
 use Rattle.sheet.specs.Reader.{Reader, SheetRead, qubitLine, distanceLine, generatorLines, linesAfter, sheetLines}
+use Rattle.sheet.specs.Reader.{answered}
 use Rattle.sheet.specs.Record.{mostQubits, mostGenerators, firstGeneratorAt}
 use Rattle.sheet.proofs.Outcome.{what-was-got}
 use Rattle.sheet.proofs.Consumed.{qubit-line-outcome, distance-line-outcome}
@@ -16,7 +17,7 @@ use Rattle.sheet.proofs.Parts.{tail-of}
 use Rattle.lines.specs.Answers.{numberAnswer}
 use Rattle.reader.specs.Answers.{Reads, mapped, countedRows}
 use Rattle.reader.proofs.Reached.{Reached, was-read, was-refused, on-tail, reached-more, number-reads}
-use Rattle.reader.proofs.Sheets.{n-refused, d-refused, g-refused, g-read, sheet-refused, sheet-as}
+use Rattle.reader.proofs.Sheets.{n-refused, d-refused, g-refused, g-read, sheet-refused}
 use Rattle.reader.proofs.sheet_lines.Statement.{statement}
 use Rattle.reader.proofs.sheet_lines.Tie as tie
 
@@ -128,7 +129,7 @@ to-tail c = g-read (s (n-of-g c)) (n-read (n-of-g c) .gives) (d-read (d-of-g c) 
 
 returns : tie.Need-returns
 returns c =
-    sheet-refused (c .refused .ensures) (c .before .enum-told .given .1)
+    sheet-refused _ (c .refused .ensures) (c .before .enum-told .given .1)
     (n-refused _ (was-refused (n-answer (c .before .before .before)) (c .before .enum-told .given .1)))
 
 sub-distance-line : tie.Need-sub-distance-line
@@ -139,7 +140,7 @@ part-distance-line-start c = n-read (c .before) .within
 
 returns-2 : tie.Need-returns-2
 returns-2 c =
-    sheet-refused (c .refused2 .ensures) (c .before .enum-told2 .given .1)
+    sheet-refused _ (c .refused2 .ensures) (c .before .enum-told2 .given .1)
     (d-refused _ (n-read (behind-n (c .before .before .before)) .gives)
     (was-refused (d-answer (c .before .before .before)) (c .before .enum-told2 .given .1)))
 
@@ -158,7 +159,7 @@ generator-lines-requires c κs = few (n-of-d (c .before .before)) .1
 returns-3 : tie.Need-returns-3
 returns-3 c =
     let found = c .before .before .before in
-    sheet-refused (c .refused3 .ensures) (c .before .enum-told3 .given .1)
+    sheet-refused _ (c .refused3 .ensures) (c .before .enum-told3 .given .1)
     (g-refused _ (n-read (n-of-d (behind-d found)) .gives) (d-read (behind-d found) .gives)
     (was-refused (g-answer found) (c .before .enum-told3 .given .1)))
 
@@ -177,7 +178,7 @@ lines-after-requires c κs =
 returns-4 : tie.Need-returns-4
 returns-4 c =
     let found = to-tail (c .before .before .before) in
-    sheet-as (sym (found .2)) (c .lines-after .ensures (found .0) (found .1))
+    c .lines-after .ensures (found .0) (found .1) ∙ ap (answered _) (sym (found .2))
 
 pub sheet-lines-spec : {M : Type 1} → statement M
 sheet-lines-spec =
