@@ -50,140 +50,111 @@ record Reached (lines : Code → List ℕ) : Type 1 where
   out : List ℕ
   end : ℕ
   held : Holds (lines (code start)) (buffer start) out end
+  small : length (lines (code start)) ≤ length (buffer start)
 
 -- One more part, laid behind them.
 abbrev next : {lines longer : Code → List ℕ} (r : Reached lines) (more : List ℕ)
-    → lines (code (r .start)) ++ more ≡ longer (code (r .start)) → {part : List ℕ} {m : ℕ} → m ≡ length more
+    → lines (code (r .start)) ++ more ≡ longer (code (r .start))
+    → length (longer (code (r .start))) ≤ length (buffer (r .start)) → {part : List ℕ} {m : ℕ} → m ≡ length more
     → part ≡ laid more (lent (r .end) (r .out)) → length part ≡ length (lent (r .end) (r .out)) → Reached longer
-next r more same {part} {m} count content kept = record {
+next r more same small {part} {m} count content kept = record {
   start = r .start;
   out = back (r .end) (r .out) part;
   end = r .end + m;
   held = holds-as (holds-more (r .held) more count content kept) same;
+  small = small;
 }
 
 module _ {lines : Code → List ℕ} (r : Reached lines) where
   -- The end is in the slice, and is a machine's number.
-  inside : length (lines (code (r .start))) ≤ length (buffer (r .start)) → r .end ≤ length (r .out)
-  inside = end-within (r .held)
+  inside : r .end ≤ length (r .out)
+  inside = end-within (r .held) (r .small)
 
-  counted : length (lines (code (r .start))) ≤ length (buffer (r .start)) → r .end < 2 ^ 64
-  counted whole = omega (arith, r .held .count, whole, r .start .before .before .good .0)
+  counted : r .end < 2 ^ 64
+  counted = omega (arith, r .held .count, r .small, r .start .before .before .good .0)
 
   -- The next part has room.
   has-room : {longer : List ℕ} (more : List ℕ) → lines (code (r .start)) ++ more ≡ longer
       → length longer ≤ length (buffer (r .start)) → length more ≤ length (lent (r .end) (r .out))
-  has-room more same whole = room-behind (r .held) more (omega (arith, ap length same))
+  has-room more same small = room-behind (r .held) more (omega (arith, ap length same))
 
 -- ---- behind each call
 
 abbrev behindN : tie.After-number-line → Reached toN
-behindN c = record {
-  start = c .before .before .before;
-  out = c .number-line .last .0;
-  end = c .number-line .result;
-  held = record {
-    content = c .number-line .ensures .1;
-    count = c .number-line .ensures .0;
-    size = c .number-line .kept .0;
-  };
-}
+behindN c =
+    let call = c .number-line in
+    record {
+      start = c .before .before .before;
+      out = call .last .0;
+      end = call .result;
+      held = record { content = call .ensures .1; count = call .ensures .0; size = call .kept .0 };
+      small = fits (c .before .before .before) .n;
+    }
 
 abbrev behindD : tie.After-number-line2 → Reached toD
 behindD c =
     let call = c .number-line2 in
-    next (behindN (c .before .before .before .before .before)) _ refl (call .ensures .0) (call .ensures .1)
-    (call .kept .0)
+    let r = behindN (c .before .before .before .before .before) in
+    next r _ refl (fits (r .start) .d) (call .ensures .0) (call .ensures .1) (call .kept .0)
 
 abbrev behindG : tie.After-row-lines → Reached toG
 behindG c =
     let call = c .row-lines in
-    next (behindD (c .before .before .before .before)) _ refl (call .ensures .0) (call .ensures .1) (call .kept .0)
+    let r = behindD (c .before .before .before .before) in
+    next r _ refl (fits (r .start) .g) (call .ensures .0) (call .ensures .1) (call .kept .0)
 
-abbrev moreX : (s : tie.After-pair-count) → toG (code s) ++ familyText LogicalX (code s) (k s) ≡ toX (code s)
+moreX : (s : tie.After-pair-count) → toG (code s) ++ familyText LogicalX (code s) (k s) ≡ toX (code s)
 moreX s = ap (λ count. toG (code s) ++ familyText LogicalX (code s) count) (s .pair-count .ensures)
 
 abbrev behindX : tie.After-row-lines2 → Reached toX
 behindX c =
     let call = c .row-lines2 in
     let r = behindG (c .before .before .before .before) in
-    next r _ (moreX (r .start)) (call .ensures .0) (call .ensures .1) (call .kept .0)
+    next r _ (moreX (r .start)) (fits (r .start) .x) (call .ensures .0) (call .ensures .1) (call .kept .0)
 
-abbrev moreZ : (s : tie.After-pair-count) → toX (code s) ++ familyText LogicalZ (code s) (k s) ≡ toZ (code s)
+moreZ : (s : tie.After-pair-count) → toX (code s) ++ familyText LogicalZ (code s) (k s) ≡ toZ (code s)
 moreZ s = ap (λ count. toX (code s) ++ familyText LogicalZ (code s) count) (s .pair-count .ensures)
 
 abbrev behindZ : tie.After-row-lines3 → Reached toZ
 behindZ c =
     let call = c .row-lines3 in
     let r = behindX (c .before .before .before .before) in
-    next r _ (moreZ (r .start)) (call .ensures .0) (call .ensures .1) (call .kept .0)
+    next r _ (moreZ (r .start)) (fits (r .start) .z) (call .ensures .0) (call .ensures .1) (call .kept .0)
 
 abbrev behindW : tie.After-claim-line → Reached toW
 behindW c =
     let call = c .claim-line in
-    next (behindZ (c .before .before .before .before)) _ refl (call .ensures .0) (call .ensures .1) (call .kept .0)
+    let r = behindZ (c .before .before .before .before) in
+    next r _ refl (fits (r .start) .w) (call .ensures .0) (call .ensures .1) (call .kept .0)
 
--- ---- the needs
+-- ---- what each call requires
 
 number-line-requires : tie.Need-number-line-requires
 number-line-requires c κs = fits (c .before .before) .n
 
-sub-number-line : tie.Need-sub-number-line
-sub-number-line c = let r = behindN (c .before .before) in inside r (fits (r .start) .n)
-
 number-line-requires-2 : tie.Need-number-line-requires-2
 number-line-requires-2 c κs =
     let r = behindN (c .before .before .before .before) in has-room r _ refl (fits (r .start) .d)
-
-add-end : tie.Need-add-end
-add-end c = let r = behindD (c .before .before) in record { fits = counted r (fits (r .start) .d) }
-
-sub-row-lines : tie.Need-sub-row-lines
-sub-row-lines c = let r = behindD (c .before .before) in inside r (fits (r .start) .d)
 
 row-lines-requires : tie.Need-row-lines-requires
 row-lines-requires c κs =
     let r = behindD (c .before .before .before) in
     let s = r .start in (within s .qubits .1, (generators-few s, has-room r _ refl (fits s .g)))
 
-add-end-2 : tie.Need-add-end-2
-add-end-2 c = let r = behindG (c .before .before) in record { fits = counted r (fits (r .start) .g) }
-
-sub-row-lines-2 : tie.Need-sub-row-lines-2
-sub-row-lines-2 c = let r = behindG (c .before .before) in inside r (fits (r .start) .g)
-
 row-lines-requires-2 : tie.Need-row-lines-requires-2
 row-lines-requires-2 c κs =
     let r = behindG (c .before .before .before) in
     let s = r .start in (within s .qubits .1, (pairs-few s .0, has-room r _ (moreX s) (fits s .x)))
-
-add-end-3 : tie.Need-add-end-3
-add-end-3 c = let r = behindX (c .before .before) in record { fits = counted r (fits (r .start) .x) }
-
-sub-row-lines-3 : tie.Need-sub-row-lines-3
-sub-row-lines-3 c = let r = behindX (c .before .before) in inside r (fits (r .start) .x)
 
 row-lines-requires-3 : tie.Need-row-lines-requires-3
 row-lines-requires-3 c κs =
     let r = behindX (c .before .before .before) in
     let s = r .start in (within s .qubits .1, (pairs-few s .1, has-room r _ (moreZ s) (fits s .z)))
 
-add-end-4 : tie.Need-add-end-4
-add-end-4 c = let r = behindZ (c .before .before) in record { fits = counted r (fits (r .start) .z) }
-
-sub-claim-line : tie.Need-sub-claim-line
-sub-claim-line c = let r = behindZ (c .before .before) in inside r (fits (r .start) .z)
-
 claim-line-requires : tie.Need-claim-line-requires
 claim-line-requires c κs =
     let r = behindZ (c .before .before .before) in
     let s = r .start in (within s .qubits .1, has-room r _ refl (fits s .w))
-
-add-end-5 : tie.Need-add-end-5
-add-end-5 c = let r = behindW (c .before .before) in record { fits = counted r (fits (r .start) .w) }
-
-same-length : tie.Need-same-length
-same-length c = behindW (c .before .before) .held .size
 
 returns : tie.Need-returns
 returns c =
@@ -198,31 +169,31 @@ sheet-lines-spec =
     (λ c κs. search needs)
     (λ c. search needs)
     number-line-requires
-    sub-number-line
-    sub-number-line
+    (λ c. inside (behindN (c .before .before)))
+    (λ c. inside (behindN (c .before .before)))
     (λ c. search needs)
     (λ c. search needs)
     number-line-requires-2
-    add-end
-    sub-row-lines
-    sub-row-lines
+    (λ c. record { fits = counted (behindD (c .before .before)) })
+    (λ c. inside (behindD (c .before .before)))
+    (λ c. inside (behindD (c .before .before)))
     (λ c. search needs)
     row-lines-requires
-    add-end-2
-    sub-row-lines-2
-    sub-row-lines-2
+    (λ c. record { fits = counted (behindG (c .before .before)) })
+    (λ c. inside (behindG (c .before .before)))
+    (λ c. inside (behindG (c .before .before)))
     (λ c. search needs)
     row-lines-requires-2
-    add-end-3
-    sub-row-lines-3
-    sub-row-lines-3
+    (λ c. record { fits = counted (behindX (c .before .before)) })
+    (λ c. inside (behindX (c .before .before)))
+    (λ c. inside (behindX (c .before .before)))
     (λ c. search needs)
     row-lines-requires-3
-    add-end-4
-    sub-claim-line
-    sub-claim-line
+    (λ c. record { fits = counted (behindZ (c .before .before)) })
+    (λ c. inside (behindZ (c .before .before)))
+    (λ c. inside (behindZ (c .before .before)))
     (λ c. search needs)
     claim-line-requires
-    add-end-5
-    same-length
+    (λ c. record { fits = counted (behindW (c .before .before)) })
+    (λ c. behindW (c .before .before) .held .size)
     returns)
