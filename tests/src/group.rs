@@ -1,5 +1,4 @@
-//! The group of the g rows: checks 6 to 8, the member with given letters, and the canonical generators, which 01
-//! calls tidy rows.
+//! The group of the g rows: checks 6 to 8, the member with given letters, and the canonical generators.
 
 use crate::product::{commute, commuting_product, product};
 use crate::sheet::{line, Letter, Refusal, Row, Sheet};
@@ -160,7 +159,7 @@ mod tests {
     use crate::lists;
     use crate::random::Random;
     use crate::samples::{self, row, A, CLASH, I, K, L, NINE};
-    use crate::samples::{TABLE_3_1, TABLE_3_3, TABLE_3_4, TABLE_3_5};
+    use crate::samples::{EIGHT, FOUR, NINE_OTHER_ROWS, SEVEN_OTHER_ROWS};
     use crate::sheet::read_alone;
 
     fn rows(texts: &[&str]) -> Vec<Row> {
@@ -193,7 +192,7 @@ mod tests {
 
     #[test]
     fn published_codes_pass() {
-        let tables = [TABLE_3_1, TABLE_3_3, TABLE_3_4, TABLE_3_5].map(str::to_string);
+        let tables = [NINE_OTHER_ROWS, EIGHT, SEVEN_OTHER_ROWS, FOUR].map(str::to_string);
         for text in tables.into_iter().chain(samples::repetitions()) {
             assert!(canonical(&text).is_ok(), "{text}");
         }

@@ -1,4 +1,4 @@
-//! Document 01 once more, written from the document alone: the test program `test_calls` is compared with it. Clarity
+//! The rules once more, written from their text alone: the test program `test_calls` is compared with this. Clarity
 //! goes before speed. A row is a sign and a list of letters, and only the record, as a caller hands it over, has
 //! masks and phases: they come from the letters one by one, so that a mistake about them is not made here as well.
 //!

@@ -145,7 +145,7 @@ mod tests {
 
     /// Phases p + p' + 2(b·a') modulo 4 and masks a + a', b + b' bit by bit, on one qubit.
     #[test]
-    fn letters_multiply_by_the_rule_of_01() {
+    fn letters_multiply_by_the_product_rule() {
         for left in Letter::ALL {
             for right in Letter::ALL {
                 let pauli = |minus, letter| {

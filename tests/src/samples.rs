@@ -1,4 +1,4 @@
-//! The sheets that document 01 names, and the codes that document 000 prints (its tables 3.1 to 3.5), as text.
+//! The sample sheets A to L, other sheets at the edges, and published codes, as text.
 
 use crate::random::Random;
 use crate::sheet::{Letter, Row, Sheet};
@@ -38,7 +38,7 @@ z=+ZI
 w=ZI
 ";
 
-/// The seven-qubit code, with the rows of document 001's parity checks.
+/// The seven-qubit code, with the rows of the Hamming code's parity checks.
 pub const L: &str = "\
 n=7
 d=3
@@ -53,7 +53,7 @@ z=+ZZZZZZZ
 w=XXXIIII
 ";
 
-/// Of 01's edges: the two generators anticommute.
+/// The two generators anticommute.
 pub const CLASH: &str = "\
 n=3
 d=1
@@ -64,7 +64,7 @@ z=+IZI
 w=IXI
 ";
 
-/// The nine-qubit code as 01 gives its generators; 01 leaves the logicals open.
+/// The nine-qubit code, which corrects one error on any qubit though some errors share a syndrome.
 pub const NINE: &str = "\
 n=9
 d=3
@@ -81,8 +81,8 @@ z=+XXXXXXXXX
 w=ZIIZIIZII
 ";
 
-/// The nine-qubit code as table 3.1 prints it.
-pub const TABLE_3_1: &str = "\
+/// The nine-qubit code with other rows than NINE.
+pub const NINE_OTHER_ROWS: &str = "\
 n=9
 d=3
 g=+ZZIIIIIII
@@ -99,7 +99,7 @@ w=IIIIIIXXX
 ";
 
 /// The eight-qubit code.
-pub const TABLE_3_3: &str = "\
+pub const EIGHT: &str = "\
 n=8
 d=3
 g=+XXXXXXXX
@@ -117,7 +117,7 @@ w=IIIIIZXY
 ";
 
 /// The seven-qubit code with other rows than L.
-pub const TABLE_3_4: &str = "\
+pub const SEVEN_OTHER_ROWS: &str = "\
 n=7
 d=3
 g=+XXXXIII
@@ -132,7 +132,7 @@ w=IIIIXXX
 ";
 
 /// Four qubits; as printed the two X rows anticommute.
-pub const TABLE_3_5: &str = "\
+pub const FOUR: &str = "\
 n=4
 d=2
 g=+XZZX
@@ -162,9 +162,9 @@ pub fn starred() -> [String; 12] {
     ]
 }
 
-/// The sheets that 01 and document 000 name; all have the form of a sheet, and some fail the checks that come after it.
+/// The samples and the published codes. All have the form of a sheet, and some fail the checks that come after it.
 pub fn published() -> Vec<String> {
-    let others = [CLASH, NINE, TABLE_3_1, TABLE_3_3, TABLE_3_4, TABLE_3_5];
+    let others = [CLASH, NINE, NINE_OTHER_ROWS, EIGHT, SEVEN_OTHER_ROWS, FOUR];
     let mut sheets = starred().to_vec();
     sheets.extend(others.map(str::to_string));
     sheets

@@ -1,6 +1,6 @@
 //! The sheet: its lines, the checks 1 to 5 that reading them makes, and the text that the writer gives.
 
-/// In the order in which 01 compares letters.
+/// In the order in which letters are compared.
 #[derive(Clone, Copy, PartialEq, Eq, PartialOrd, Ord, Debug)]
 pub enum Letter {
     I,
@@ -48,7 +48,7 @@ pub fn weight(letters: &[Letter]) -> usize {
     letters.iter().filter(|&&l| l != Letter::I).count()
 }
 
-/// What 01's table of refusals has in every line: the number, and the line named (0 where none is). 6 to 10 are about
+/// What the table of refusals has in every line: the number, and the line named (0 where none is). 6 to 10 are about
 /// a row, and have the letter of its key too.
 #[derive(Clone, Copy, PartialEq, Eq, Debug)]
 pub struct Refusal {

@@ -4,7 +4,7 @@ use super::{each_change, unchanged, Part};
 use crate::cases::{Case, Kind};
 use crate::lists;
 use crate::random::Random;
-use crate::samples::{self, A, CLASH, I, K, TABLE_3_3};
+use crate::samples::{self, A, CLASH, EIGHT, I, K};
 use crate::sheet::{self, Letter, Row, Sheet};
 
 /// A first row that nothing is multiplied with: the answer goes by its phase as it stands in the record.
@@ -29,7 +29,7 @@ z=-YYI
 w=YYI
 ";
 
-const TO_BE_CHANGED: [&str; 7] = [A, I, K, CLASH, TABLE_3_3, MINUS_I, ""];
+const TO_BE_CHANGED: [&str; 7] = [A, I, K, CLASH, EIGHT, MINUS_I, ""];
 
 pub fn parts() -> Vec<Part> {
     let mut random = Random(0x5eed_0006_2009);

@@ -3,7 +3,7 @@
 use super::{each_change, unchanged, Part};
 use crate::cases::{Case, Kind};
 use crate::random::Random;
-use crate::samples::{self, A, K, NINE, TABLE_3_3};
+use crate::samples::{self, A, EIGHT, K, NINE};
 use crate::sheet::Letter;
 use crate::{damage, lists};
 
@@ -36,7 +36,7 @@ pub fn parts() -> Vec<Part> {
         Part::sampled(50, texts(misshapen())),
         Part::sampled(10, texts(behind_w())),
         Part::sampled(0, texts(long(&mut random))),
-        Part::kept(unchanged(Kind::Lines, [A, TABLE_3_3])),
+        Part::kept(unchanged(Kind::Lines, [A, EIGHT])),
         Part::sampled(4, unchanged(Kind::Lines, any_form(&mut random))),
         Part::sampled(8, each_change(Kind::Lines, to_be_changed)),
     ]
@@ -94,7 +94,7 @@ fn to_be_changed(random: &mut Random) -> Texts {
     let mut texts: Texts = (2..=24).map(|n| any_sheet(random, n)).collect();
     texts.extend([
         K.into(),
-        TABLE_3_3.into(),
+        EIGHT.into(),
         any_rows(random, 24, 23, 4),
         longest,
         // all rows +I: with r = 0 and with r = n nothing but r is outside its limits
@@ -110,7 +110,7 @@ fn to_be_changed(random: &mut Random) -> Texts {
 fn cut(random: &mut Random) -> Texts {
     let mut texts: Texts = (2..=24).map(|n| any_sheet(random, n)).collect();
     texts.push(any_rows(random, 24, 1, 7));
-    texts.extend([K, NINE, TABLE_3_3].map(|text| text.as_bytes().to_vec()));
+    texts.extend([K, NINE, EIGHT].map(|text| text.as_bytes().to_vec()));
     let cut = |text: &Vec<u8>| damage::prefixes(text);
     texts.iter().flat_map(cut).collect()
 }
@@ -143,7 +143,7 @@ fn lines_out_of_place() -> Texts {
         damage::lines_doubled,
         damage::lines_dropped,
     ];
-    let texts = [K, A, TABLE_3_3].map(str::as_bytes);
+    let texts = [K, A, EIGHT].map(str::as_bytes);
     ways.iter()
         .flat_map(|way| texts.map(way).concat())
         .collect()
@@ -272,7 +272,7 @@ fn behind_w() -> Texts {
         K.as_bytes(),
     ];
     let mut texts = Texts::new();
-    for sheet in [K, A, TABLE_3_3] {
+    for sheet in [K, A, EIGHT] {
         texts.extend(BEHIND.map(|behind| [sheet.as_bytes(), behind].concat()));
     }
     texts
