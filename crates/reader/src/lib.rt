@@ -11,9 +11,9 @@ use sheet::Lines;
 use sheet::LinesReading;
 use sheet::Refusal;
 ghost use mathlib.Core.Path.{_≡_};
-ghost use Prim.Native.Nat.{_≤_, _<_};
+ghost use Prim.Native.Nat.{_+_, _≤_};
 ghost use lib.ListN.{length, take};
-ghost use Rattle.sheet.specs.Record.{mostQubits, logicalRoom, mostGenerators, firstGeneratorAt, rowKey};
+ghost use Rattle.sheet.specs.Record.{generatorRoom, logicalRoom, mostQubits, mostGenerators, firstGeneratorAt, rowKey};
 ghost use Rattle.sheet.specs.Reader.{rowsUpTo, generatorLines, logicalLines, linesAfter, sheetLines};
 ghost use Rattle.sheet.specs.Reader.{answered, linesReading, formReading, behind};
 ghost use Rattle.reader.specs.Answers.{ReadsRows, ReadsLogicals, emptyBeside, ReadsAfter};
@@ -27,9 +27,9 @@ struct Rows {
 
 // The lines of a family's rows from the line `at` on, until one is of another kind or `most` are read.
 fn rows_up_to(s: &[u8], family: Family, most: usize, n: usize, at: usize) -> Rows
-    requires { ⌜ most ≤ mostQubits ⌝ }
+    requires { ⌜ most ≤ generatorRoom ⌝ }
     requires { ⌜ n ≤ mostQubits ⌝ }
-    requires { ⌜ at < 100 ⌝ }
+    requires { ⌜ at ≤ firstGeneratorAt + generatorRoom + logicalRoom ⌝ }
     ensures { λ r. ⌜ r .count ≤ most ⌝ }
     ensures { λ r. ⌜ ReadsRows (now (s .entry)) r (rowsUpTo most (rowKey family) n at (now (s .entry))) ⌝ }
 {
@@ -111,7 +111,7 @@ struct Logicals {
 fn logical_lines(s: &[u8], family: Family, n: usize, k: usize, at: usize) -> Logicals
     requires { ⌜ n ≤ mostQubits ⌝ }
     requires { ⌜ k ≤ mostQubits ⌝ }
-    requires { ⌜ at < 100 ⌝ }
+    requires { ⌜ at ≤ firstGeneratorAt + generatorRoom + logicalRoom ⌝ }
     ensures { λ r. ⌜ ReadsLogicals (now (s .entry)) r (logicalLines k (rowKey family) n at (now (s .entry))) ⌝ }
 {
     let logicals = rows_up_to(s, family, k, n, at);
@@ -153,7 +153,7 @@ fn lines_after(
 ) -> LinesReading
     requires { ⌜ from ≤ length (now s) ⌝ }
     requires { ⌜ n ≤ mostQubits ⌝ }
-    requires { ⌜ at < 50 ⌝ }
+    requires { ⌜ at ≤ firstGeneratorAt + generatorRoom ⌝ }
     ensures { λ q. ⌜ ReadsAfter (now (s .entry)) from generators (linesAfter n d at) q ⌝ }
 {
     let r = generators.count;
