@@ -18,7 +18,7 @@ use Rattle.sheet.specs.declared.Family.{Family}
 use Rattle.sheet.specs.declared.Refusal.{Refusal}
 use Rattle.sheet.specs.Reader.{Reader, got, stop, continue, begins, gotOr, readLetters, readRow, inRange}
 use Rattle.sheet.specs.Reader.{isLine, lineOf, readNumber, qubitDigits, qubitLine, distanceLine, rowLine, claimLine}
-use Rattle.sheet.specs.Record.{mostQubits, longestDistance, rowKey}
+use Rattle.sheet.specs.Record.{mostQubits, mostDistance, rowKey}
 use Rattle.sheet.specs.Text.{lineFeed}
 use Rattle.sheet.proofs.Line.{nonzero-within}
 use Rattle.lines.specs.declared.LineKind.{LineKind}
@@ -92,7 +92,7 @@ qubit-line-form s = refl
 pub distance-line-form : (s : List ℕ)
     → distanceLine s
     ≡ continue (lineOf (kindKey LineKind.Distance) 1 readNumber (Refusal.Form 2) s)
-    (inRange 1 longestDistance (Refusal.DistanceRange 2))
+    (inRange 1 mostDistance (Refusal.DistanceRange 2))
 unfolding distanceLine bytes
 distance-line-form s = refl
 

@@ -28,7 +28,7 @@ searches = (refl, refl, refl)
 
 -- ---- products and commutation
 
--- "Y = iXZ"
+-- Y is i times X times Z.
 y-is-ixz : product (record { p = 1; a = 0; b = 0 }) (product (ofLetters (X ∷ [])) (ofLetters (Z ∷ [])))
     ≡ ofLetters (Y ∷ [])
 unfolding definitions
@@ -46,7 +46,7 @@ xz-zx :
 unfolding definitions
 xz-zx = (refl, refl)
 
--- "XX times ZZ .. is -YY"
+-- XX times ZZ is -YY, and not +YY.
 xx-zz : product (ofLetters (X ∷ X ∷ [])) (ofLetters (Z ∷ Z ∷ [])) ≡ signedRow Minus (Y ∷ Y ∷ [])
 unfolding definitions
 xx-zz = refl

@@ -16,7 +16,7 @@ use Rattle.sheet.specs.declared.Refusal.{Refusal}
 use Rattle.sheet.specs.Reader.{stop, done, begins, isLine, lineOf, readLine, readNumber, readRow, readLetters}
 use Rattle.sheet.specs.Reader.{inRange, qubitLine, distanceLine, rowLine, rowsUpTo, countedGenerators, generatorLines}
 use Rattle.sheet.specs.Reader.{countedLogicals, logicalLines, claimLine, linesAfter, sheetLines, readLines}
-use Rattle.sheet.specs.Record.{mostQubits, longestDistance, longestInput, firstGeneratorAt, pairCount, mostGenerators}
+use Rattle.sheet.specs.Record.{mostQubits, mostDistance, longestInput, firstGeneratorAt, pairCount, mostGenerators}
 use Rattle.sheet.specs.Record.{between}
 use Rattle.sheet.proofs.Limits.{between-bounds}
 use Rattle.sheet.proofs.Outcome.{Outcome, gets, stops, continue-outcome, cond-outcome, gotOr-outcome}
@@ -59,11 +59,11 @@ qubit-line-brief s =
     continue-outcome (line-brief "n=" _ readNumber _ s (brief-form 1 (lit≤ tt)))
     λ n s′ h. range-brief 2 mostQubits n _ s′ (brief (Refusal.QubitCount 1) (lit≤ tt) (lit≤ tt) refl)
 
-distance-line-brief : (s : List ℕ) → Outcome (λ d s. d ≤ longestDistance) Brief (distanceLine s)
+distance-line-brief : (s : List ℕ) → Outcome (λ d s. d ≤ mostDistance) Brief (distanceLine s)
 unfolding distanceLine
 distance-line-brief s =
     continue-outcome (line-brief "d=" 1 readNumber _ s (brief-form 2 (lit≤ tt)))
-    λ d s′ h. range-brief 1 longestDistance d _ s′ (brief (Refusal.DistanceRange 2) (lit≤ tt) (lit≤ tt) refl)
+    λ d s′ h. range-brief 1 mostDistance d _ s′ (brief (Refusal.DistanceRange 2) (lit≤ tt) (lit≤ tt) refl)
 
 claim-line-brief : (n at : ℕ) (s : List ℕ) → at ≤ lastLine → Outcome Anything Brief (claimLine n at s)
 unfolding claimLine

@@ -18,7 +18,7 @@ use Rattle.sheet.specs.declared.Refusal.{Refusal}
 use Rattle.sheet.specs.Reader.{Reader, stop, done, _andThen_, begins, readLine, readNumber, readRow, readLetters}
 use Rattle.sheet.specs.Reader.{inRange, qubitLine, distanceLine, rowLine, rowsUpTo, countedGenerators}
 use Rattle.sheet.specs.Reader.{generatorLines, countedLogicals, logicalLines, claimLine}
-use Rattle.sheet.specs.Record.{mostQubits, longestDistance, mostGenerators, between, isRow}
+use Rattle.sheet.specs.Record.{mostQubits, mostDistance, mostGenerators, between, isRow}
 use Rattle.sheet.specs.Statements.{Among}
 use Rattle.sheet.specs.Text.{line, decimal}
 use Rattle.sheet.specs.Writer.{rowLines}
@@ -67,10 +67,10 @@ pub qubit-line-outcome : (s : List ℕ) → Outcome (NumberLine "n=" 2 mostQubit
 unfolding qubitLine anyOf
 qubit-line-outcome s = number-line-outcome "n=" _ 2 mostQubits (Refusal.Form 1) (Refusal.QubitCount 1) s refl refl
 
-pub distance-line-outcome : (s : List ℕ) → Outcome (NumberLine "d=" 1 longestDistance s) OfForm (distanceLine s)
+pub distance-line-outcome : (s : List ℕ) → Outcome (NumberLine "d=" 1 mostDistance s) OfForm (distanceLine s)
 unfolding distanceLine anyOf
 distance-line-outcome s =
-    number-line-outcome "d=" 1 1 longestDistance (Refusal.Form 2) (Refusal.DistanceRange 2) s refl refl
+    number-line-outcome "d=" 1 1 mostDistance (Refusal.Form 2) (Refusal.DistanceRange 2) s refl refl
 
 -- ---- rows
 

@@ -175,7 +175,7 @@ numbers-24 : (logicalCount code24 ≡ 23) × (radius code24 ≡ 3) × (claimAt c
 unfolding code24 definitions
 numbers-24 = (refl, refl, refl)
 
--- The empty record has "all numbers 0".
+-- The empty record has 0 for each number.
 empty-numbers : (emptyCode .n ≡ 0) × (emptyCode .r ≡ 0) × (emptyCode .d ≡ 0)
 unfolding definitions
 empty-numbers = (refl, refl, refl)

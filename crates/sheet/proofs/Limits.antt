@@ -13,7 +13,7 @@ use Rattle.pauli.specs.declared.Pauli.{Pauli}
 use Rattle.pauli.specs.Lists.{allOf}
 use Rattle.pauli.specs.Product.{identity, samePauli}
 use Rattle.sheet.specs.declared.Code.{Code}
-use Rattle.sheet.specs.Record.{mostQubits, longestDistance, mostGenerators, logicalCount}
+use Rattle.sheet.specs.Record.{mostQubits, mostDistance, mostGenerators, logicalCount}
 use Rattle.sheet.specs.Record.{between, onQubits, isRow, isClaim, areRows, withinLimits}
 
 -- ---- tests
@@ -69,7 +69,7 @@ row-array n m rows h = let b = both _ _ h in record { used = b .0; unused = b .1
 pub record Limits (c : Code) : Type 0 where
   pub qubits : (2 ≤ c .n) × (c .n ≤ mostQubits)
   pub generatorCount : (1 ≤ c .r) × (c .r < c .n)
-  pub distance : (1 ≤ c .d) × (c .d ≤ longestDistance)
+  pub distance : (1 ≤ c .d) × (c .d ≤ mostDistance)
   pub generatorRows : RowArray (c .n) (c .r) (c .g)
   pub xRows : RowArray (c .n) (logicalCount c) (c .x)
   pub zRows : RowArray (c .n) (logicalCount c) (c .z)
@@ -79,7 +79,7 @@ pub record Limits (c : Code) : Type 0 where
 pub record Tests (c : Code) : Type 0 where
   pub qubits : between 2 mostQubits (c .n) ≡ true
   pub generatorCount : between 1 (mostGenerators (c .n)) (c .r) ≡ true
-  pub distance : between 1 longestDistance (c .d) ≡ true
+  pub distance : between 1 mostDistance (c .d) ≡ true
   pub generatorRows : areRows (c .n) (c .r) (c .g) ≡ true
   pub xRows : areRows (c .n) (logicalCount c) (c .x) ≡ true
   pub zRows : areRows (c .n) (logicalCount c) (c .z) ≡ true
@@ -114,7 +114,7 @@ outside c e test = by-limits (withinLimits c) refl
 
 -- Where all the other tests hold, that of the claim decides.
 pub claim-decides : (c : Code) → between 2 mostQubits (c .n) ≡ true
-    → between 1 (mostGenerators (c .n)) (c .r) ≡ true → between 1 longestDistance (c .d) ≡ true
+    → between 1 (mostGenerators (c .n)) (c .r) ≡ true → between 1 mostDistance (c .d) ≡ true
     → areRows (c .n) (c .r) (c .g) ≡ true → areRows (c .n) (logicalCount c) (c .x) ≡ true
     → areRows (c .n) (logicalCount c) (c .z) ≡ true → isClaim (c .n) (c .w) ≡ withinLimits c
 unfolding withinLimits

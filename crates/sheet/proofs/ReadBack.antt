@@ -12,7 +12,7 @@ use Rattle.pauli.specs.declared.Pauli.{Pauli}
 use Rattle.pauli.specs.Lists.{anyOf}
 use Rattle.sheet.specs.Reader.{SheetRead, got, done, linesAfter, sheetLines, readLines, nothingBehind, readForm}
 use Rattle.sheet.specs.Reader.{answered, linesReading, behind}
-use Rattle.sheet.specs.Record.{generatorRoom, logicalRoom, mostQubits, longestDistance, longestInput}
+use Rattle.sheet.specs.Record.{generatorRoom, logicalRoom, mostQubits, mostDistance, longestInput}
 use Rattle.sheet.specs.Record.{pairCount, mostGenerators, logicalCount, generators, logicalXs, logicalZs}
 use Rattle.sheet.specs.Record.{firstGeneratorAt, generatorsAt, logicalsAt, claimAt, codeOf, withinLimits}
 use Rattle.sheet.specs.Statements.{phasesModulo4, ReadIsLawful, ReadsAreLawful, WriteAfterRead, RestIsBehind}
@@ -28,7 +28,7 @@ use Rattle.sheet.proofs.Outcome.{Outcome, gets, stops, what-was-got, co
 
 module _
     {n d : ℕ} {gs xs zs : List Pauli} {w : Pauli} {s s₁ s₂ s₃ s₄ s₅ rest : List ℕ}
-    (hn : NumberLine "n=" 2 mostQubits s n s₁) (hd : NumberLine "d=" 1 longestDistance s₁ d s₂)
+    (hn : NumberLine "n=" 2 mostQubits s n s₁) (hd : NumberLine "d=" 1 mostDistance s₁ d s₂)
     (hg : RowLines "g=" n 1 (mostGenerators n) s₂ gs s₃)
     (hx : RowLines "x=" n (pairCount n (length gs)) (pairCount n (length gs)) s₃ xs s₄)
     (hz : RowLines "z=" n (pairCount n (length gs)) (pairCount n (length gs)) s₄ zs s₅)
@@ -50,7 +50,7 @@ module _
     limits = rw (
       bounds-between 2 mostQubits n (hn .lawful .0) (hn .lawful .1),
       bounds-between 1 (mostGenerators n) (length gs) (hg .lawful .least) (hg .lawful .most),
-      bounds-between 1 longestDistance d (hd .lawful .0) (hd .lawful .1),
+      bounds-between 1 mostDistance d (hd .lawful .0) (hd .lawful .1),
       filled-are-rows generatorRoom gs _ refl n (hg .lawful .each),
       filled-are-rows logicalRoom xs _ (row-count (hx .lawful)) n (hx .lawful .each),
       filled-are-rows logicalRoom zs _ (row-count (hz .lawful)) n (hz .lawful .each),

@@ -19,7 +19,7 @@ use Rattle.sheet.specs.Reader.{got, done, continue, begins, readNumber, 
 use Rattle.sheet.specs.Reader.{qubitDigits, qubitLine, distanceLine, rowLine, rowsUpTo, countedGenerators}
 use Rattle.sheet.specs.Reader.{generatorLines, countedLogicals, logicalLines, claimLine, linesAfter}
 use Rattle.sheet.specs.Reader.{sheetLines, readLines}
-use Rattle.sheet.specs.Record.{generatorRoom, logicalRoom, mostQubits, longestDistance, longestInput}
+use Rattle.sheet.specs.Record.{generatorRoom, logicalRoom, mostQubits, mostDistance, longestInput}
 use Rattle.sheet.specs.Record.{mostGenerators, pairCount, logicalCount, generatorsAt, logicalsAt, claimAt}
 use Rattle.sheet.specs.Record.{firstGeneratorAt, codeOf, generators, logicalXs, logicalZs, isRow, isClaim}
 use Rattle.sheet.specs.Statements.{Sized, phasesModulo4, ReadAfterWrite}
@@ -55,14 +55,14 @@ qubit-line-returns n rest low high =
     rw (line-returns "n=" _ readNumber (Refusal.Form 1) (decimal n) rest n width number)
     (in-range-returns 2 mostQubits n _ rest low high)
 
-distance-line-returns : (d : ℕ) (rest : List ℕ) → 1 ≤ d → d ≤ longestDistance
+distance-line-returns : (d : ℕ) (rest : List ℕ) → 1 ≤ d → d ≤ mostDistance
     → distanceLine (line "d=" (decimal d) ++ rest) ≡ got d rest
 unfolding distanceLine continue
 distance-line-returns d rest low high =
     let width = length-decimal-one d (omega arith) in
     let number = number-read d low (omega arith) in
     rw (line-returns "d=" 1 readNumber (Refusal.Form 2) (decimal d) rest d width number)
-    (in-range-returns 1 longestDistance d _ rest low high)
+    (in-range-returns 1 mostDistance d _ rest low high)
 
 -- ---- rows
 

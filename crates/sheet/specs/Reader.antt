@@ -18,7 +18,7 @@ use Rattle.sheet.specs.declared.Lines.{Lines}
 use Rattle.sheet.specs.declared.LinesReading.{LinesReading}
 use Rattle.sheet.specs.Text.{lineFeed}
 use Rattle.sheet.specs.Record.{between, codeOf, emptyCode, pairCount, mostGenerators, firstGeneratorAt}
-use Rattle.sheet.specs.Record.{mostQubits, longestDistance, longestInput}
+use Rattle.sheet.specs.Record.{mostQubits, mostDistance, longestInput}
 
 -- What a reader gives: a value and the rest of the bytes, or the refusal that ends the reading.
 pub data Parsed (A : Type 0) : Type 0 where
@@ -105,7 +105,7 @@ qubitLine s =
 -- RULES, "The sheet": the d line has one digit, not 0. 2 at line 2, then 4 where d is not 1 to 7.
 unfoldable pub distanceLine : Reader ℕ
 distanceLine =
-    readLine "d=" 1 readNumber (Refusal.Form 2) andThen inRange 1 longestDistance (Refusal.DistanceRange 2)
+    readLine "d=" 1 readNumber (Refusal.Form 2) andThen inRange 1 mostDistance (Refusal.DistanceRange 2)
 
 -- RULES, "The sheet": the line of a row has a sign and n letters.
 unfoldable pub rowLine : String → ℕ → ℕ → Reader Pauli

@@ -28,8 +28,8 @@ logicalRoom = 24
 abbrev pub mostQubits : ℕ
 mostQubits = 24
 
-abbrev pub longestDistance : ℕ
-longestDistance = 7
+abbrev pub mostDistance : ℕ
+mostDistance = 7
 
 -- RULES, "The sheet": how many bytes an input has at most, and a sheet that passes.
 abbrev pub longestInput : ℕ
@@ -147,7 +147,7 @@ areRows n m rows = allOf (isRow n) (take m rows) && allOf (samePauli identity) (
 -- sign +.
 unfoldable pub withinLimits : Code → Bool
 withinLimits c =
-    between 2 mostQubits (c .n) && between 1 (mostGenerators (c .n)) (c .r) && between 1 longestDistance (c .d)
+    between 2 mostQubits (c .n) && between 1 (mostGenerators (c .n)) (c .r) && between 1 mostDistance (c .d)
     && areRows (c .n) (c .r) (c .g) && areRows (c .n) (logicalCount c) (c .x) && areRows (c .n) (logicalCount c) (c .z)
     && isClaim (c .n) (c .w)
 

@@ -16,8 +16,12 @@ abbrev pub Within : Case → List ℕ → Type 0
 Within (Case.Got kind change len) s = Counts len s
 Within Case.End s = Unit {0}
 
+-- What a buffer holds before a writer is lent it, and how many bytes it has at most.
 abbrev pub dot : ℕ
 dot = code "."
+
+abbrev pub bufferRoom : ℕ
+bufferRoom = 1360
 
 -- A byte counts, but for a dot behind which none does.
 unfoldable pub counted : ℕ → ℕ → ℕ

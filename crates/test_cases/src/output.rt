@@ -6,7 +6,7 @@ use sheet::Written;
 ghost use mathlib.Core.Path.{_≡_};
 ghost use Prim.Native.Nat.{_≤_};
 ghost use lib.ListN.{length, replicate};
-ghost use Rattle.test_cases.specs.Cases.{dot, shown};
+ghost use Rattle.test_cases.specs.Cases.{bufferRoom, dot, shown};
 
 pub fn print(text: &[u8]) {
     io::write_all(STDOUT_FILENO, text);
@@ -43,12 +43,14 @@ pub fn print_written(written: Written) {
     print(b"\n");
 }
 
-// Bytes for a writer to write into, some more than the longest sheet has. They are dots, so that it can be seen what
-// was written.
-pub fn dots() -> [u8; 1360]
-    ensures { λ r. ⌜ r ≡ replicate 1360 dot ⌝ }
+// How many bytes a writer is lent at most: some more than the longest sheet has.
+const BUFFER_ROOM: usize = 1360;
+
+// Bytes for a writer to write into. They are dots, so that it can be seen what was written.
+pub fn dots() -> [u8; BUFFER_ROOM]
+    ensures { λ r. ⌜ r ≡ replicate bufferRoom dot ⌝ }
 {
-    [b'.'; 1360]
+    [b'.'; BUFFER_ROOM]
 }
 
 // The bytes up to the last that is no dot, and how many dots follow.

@@ -6,7 +6,7 @@ use mathlib.Core.Path.{_≡_, ap, _∙_}
 use Prim.Native.Nat.{_≤_}
 use native.Mathlib.Omega.{arith}
 use Rattle.sheet.specs.declared.Code.{Code}
-use Rattle.sheet.specs.Record.{mostQubits, longestDistance, mostGenerators, logicalCount, between, areRows}
+use Rattle.sheet.specs.Record.{mostQubits, mostDistance, mostGenerators, logicalCount, between, areRows}
 use Rattle.sheet.proofs.Limits.{between-bounds, outside, claim-decides}
 use Rattle.sheet.proofs.RowLimits.{passed, failed}
 use borrow.Author.Needs.{needs}
@@ -49,7 +49,7 @@ rOfD c = c .before .before
 abbrev codeD : tie.Else3 → Code
 codeD c = codeR (rOfD c)
 
-heldD : (c : tie.Else3) → between 1 longestDistance (codeD c .d) ≡ true
+heldD : (c : tie.Else3) → between 1 mostDistance (codeD c .d) ≡ true
 heldD c = passed (c .before .between3 .ensures) (c .if3 .left)
 
 -- ---- the g rows
