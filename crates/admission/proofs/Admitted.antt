@@ -9,13 +9,13 @@ use native.Mathlib.Omega.{arith}
 use borrow.Author.Tests.{eqb-true, not-false}
 use Rattle.pauli.specs.Lists.{allOf}
 use Rattle.pauli.specs.Product.{commutes, anticommutes, weight}
-use Rattle.sheet.specs.declared.Code.{Code}
-use Rattle.sheet.specs.declared.Refusal.{Refusal}
+use Rattle.code_record.specs.declared.Code.{Code}
+use Rattle.code_record.specs.declared.Refusal.{Refusal}
+use Rattle.code_record.specs.Record.{generators, generatorsAt, isClaim, onQubits, withinLimits}
+use Rattle.code_record.specs.Refusals.{_then_}
+use Rattle.code_record.proofs.Limits.{both, limits}
 use Rattle.sheet.specs.Reader.{SheetRead, Parsed, got, stop, continue, readLines, readForm, nothingBehind}
-use Rattle.sheet.specs.Record.{generators, generatorsAt, isClaim, onQubits, withinLimits}
-use Rattle.sheet.specs.Refusals.{_then_}
 use Rattle.sheet.specs.Statements.{ReadIsLawful}
-use Rattle.sheet.proofs.Limits.{both, limits}
 use Rattle.sheet.proofs.ReadBack.{reads-are-lawful, write-after-read}
 use Rattle.stabilizer.specs.Checks.{generatorFault}
 use Rattle.stabilizer.proofs.All.{all-map, all-of, none-of}

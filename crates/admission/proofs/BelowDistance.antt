@@ -11,9 +11,9 @@ use Rattle.pauli.specs.Letters.{lettersOf}
 use Rattle.pauli.specs.Lists.{allOf}
 use Rattle.pauli.specs.Product.{commutes, weight}
 use Rattle.pauli.proofs.Letters.{length-lettersOf, weight-of-letters}
-use Rattle.sheet.specs.declared.Code.{Code}
-use Rattle.sheet.specs.Record.{generators, onQubits}
-use Rattle.sheet.proofs.Limits.{on-qubits}
+use Rattle.code_record.specs.declared.Code.{Code}
+use Rattle.code_record.specs.Record.{generators, onQubits}
+use Rattle.code_record.proofs.Limits.{on-qubits}
 use Rattle.stabilizer.specs.Group.{InGroupUpToPhase, inGroupUpToPhase}
 use Rattle.stabilizer.proofs.Members.{membership-is-decided}
 use Rattle.stabilizer.proofs.Tests.{by-test}

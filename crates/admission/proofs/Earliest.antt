@@ -16,8 +16,8 @@ use Rattle.pauli.specs.Product.{commutes}
 use Rattle.pauli.specs.Statements.{StringOrder, Listed}
 use Rattle.pauli.proofs.First.{first-is-earliest, first-is-missing}
 use Rattle.pauli.proofs.EarlierOrder.{stringsUpTo-listed}
-use Rattle.sheet.specs.Record.{generators}
-use Rattle.sheet.proofs.Limits.{both}
+use Rattle.code_record.specs.Record.{generators}
+use Rattle.code_record.proofs.Limits.{both}
 use Rattle.stabilizer.specs.Group.{InGroupUpToPhase, inGroupUpToPhase}
 use Rattle.stabilizer.proofs.Members.{membership-is-decided}
 use Rattle.admission.specs.Distance.{isLogicalError, logicalErrorUpTo}

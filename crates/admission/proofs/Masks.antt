@@ -15,8 +15,8 @@ use Rattle.pauli.specs.Product.{commutes, anticommutes, symplectic}
 use Rattle.pauli.specs.Syndrome.{syndrome}
 use Rattle.pauli.proofs.Letters.{xMask-lt, zMask-lt, masks-return, letters-return}
 use Rattle.pauli.proofs.Product.{pauli}
-use Rattle.sheet.specs.Record.{onQubits}
-use Rattle.sheet.proofs.Limits.{on-qubits}
+use Rattle.code_record.specs.Record.{onQubits}
+use Rattle.code_record.proofs.Limits.{on-qubits}
 use Rattle.stabilizer.specs.Group.{InGroupUpToPhase}
 use Rattle.stabilizer.proofs.Generated.{masksOf, phaseAside, generated-as}
 use Rattle.stabilizer.proofs.Members.{in-group-aside}

@@ -7,10 +7,10 @@ use mathlib.Core.Path.{refl, ap, _∙_}
 use Prim.Native.Nat.{ℕ}
 use lib.Dec.{eqb}
 use Rattle.pauli.specs.Lists.{anyOf}
-use Rattle.sheet.specs.declared.Code.{Code}
-use Rattle.sheet.specs.declared.Refusal.{Refusal}
+use Rattle.code_record.specs.declared.Code.{Code}
+use Rattle.code_record.specs.declared.Refusal.{Refusal}
+use Rattle.code_record.specs.Refusals.{values}
 use Rattle.sheet.specs.Reader.{SheetRead, Parsed}
-use Rattle.sheet.specs.Refusals.{values}
 use Rattle.sheet.specs.Statements.{Among}
 use Rattle.sheet.proofs.Consumed.{OfForm}
 use Rattle.sheet.proofs.Numbers.{IfRefused, law-of-refusal}

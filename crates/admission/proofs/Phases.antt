@@ -14,16 +14,16 @@ use Rattle.pauli.specs.Order.{stringsUpTo}
 use Rattle.pauli.specs.Product.{product, symplectic, commutes, anticommutes, weight, sameMasks, modulo4}
 use Rattle.pauli.proofs.Modulo.{same-remainder}
 use Rattle.pauli.proofs.Product.{same-parts}
-use Rattle.sheet.specs.declared.Code.{Code}
-use Rattle.sheet.specs.declared.Refusal.{Refusal}
+use Rattle.code_record.specs.declared.Code.{Code}
+use Rattle.code_record.specs.declared.Refusal.{Refusal}
+use Rattle.code_record.specs.Record.{generators, logicalCount, logicalXs, logicalZs, generatorsAt, logicalsAt, claimAt}
+use Rattle.code_record.specs.Record.{longestInput, withinLimits, Sized}
+use Rattle.code_record.specs.Refusals.{_then_}
+use Rattle.code_record.proofs.Limits.{all-first}
 use Rattle.sheet.specs.Reader.{got, continue, readForm, nothingBehind}
-use Rattle.sheet.specs.Record.{generators, logicalCount, logicalXs, logicalZs, generatorsAt, logicalsAt, claimAt}
-use Rattle.sheet.specs.Record.{longestInput, withinLimits}
-use Rattle.sheet.specs.Refusals.{_then_}
-use Rattle.sheet.specs.Statements.{Sized, phasesModulo4}
+use Rattle.sheet.specs.Statements.{phasesModulo4}
 use Rattle.sheet.specs.Writer.{sheetText}
 use Rattle.sheet.proofs.Lengths.{sheetText-le}
-use Rattle.sheet.proofs.Limits.{all-first}
 use Rattle.sheet.proofs.WrittenRead.{read-after-write}
 use Rattle.stabilizer.specs.Checks.{firstFault, clash, dependence, generatorFault}
 use Rattle.stabilizer.specs.Group.{group, inGroupUpToPhase}

@@ -7,10 +7,10 @@ use native.Mathlib.Omega.{arith}
 use lib.ListN.{length}
 use Rattle.pauli.specs.declared.Letter.{Letter}
 use Rattle.pauli.specs.declared.Pauli.{Pauli}
-use Rattle.sheet.specs.declared.Code.{Code}
-use Rattle.sheet.specs.declared.Family.{Family}
-use Rattle.sheet.specs.declared.Refusal.{Refusal}
-use Rattle.sheet.specs.Record.{generators, generatorsAt, logicalsAt}
+use Rattle.code_record.specs.declared.Code.{Code}
+use Rattle.code_record.specs.declared.Family.{Family}
+use Rattle.code_record.specs.declared.Refusal.{Refusal}
+use Rattle.code_record.specs.Record.{generators, generatorsAt, logicalsAt}
 use Rattle.sheet.proofs.Numbers.{IfRefused, refuseIf-lawful, then-lawful}
 use Rattle.stabilizer.specs.Checks.{firstFault, clash, dependence, generatorFault}
 use Rattle.admission.specs.Admission.{faultButDistance, codeFault}

@@ -4,7 +4,7 @@ use mathlib.Core.List.{List}
 use mathlib.Core.Option.{none}
 use mathlib.Core.Path.{_≡_, ap, _∙_}
 use Prim.Native.Nat.{ℕ}
-use Rattle.sheet.specs.Record.{limitsFault}
+use Rattle.code_record.specs.Record.{limitsFault}
 use Rattle.sheet.specs.Text.{written}
 use Rattle.sheet.specs.Writer.{writeSheet}
 use Rattle.sheet.proofs.WrittenText.{limits-kept, written-short, written-whole}

@@ -3,11 +3,11 @@ use mathlib.Core.List.{List, []}
 use mathlib.Core.Option.{Option, none, some}
 use mathlib.Core.Path.{_≡_}
 use Prim.Native.Nat.{ℕ}
-use Rattle.sheet.specs.declared.Code.{Code}
-use Rattle.sheet.specs.declared.Refusal.{Refusal}
-use Rattle.sheet.specs.Record.{generators, generatorsAt, emptyCode}
+use Rattle.code_record.specs.declared.Code.{Code}
+use Rattle.code_record.specs.declared.Refusal.{Refusal}
+use Rattle.code_record.specs.Record.{generators, generatorsAt, emptyCode}
+use Rattle.code_record.specs.Refusals.{_then_}
 use Rattle.sheet.specs.Reader.{SheetRead, Parsed, got, stop, readForm}
-use Rattle.sheet.specs.Refusals.{_then_}
 use Rattle.stabilizer.specs.Checks.{generatorFault}
 use Rattle.admission.specs.declared.Admission.{Admission}
 use Rattle.admission.specs.declared.Reading.{Reading}

@@ -12,11 +12,11 @@ use Rattle.pauli.specs.declared.Letter.{Letter}
 use Rattle.pauli.specs.declared.Letter.the-variants.{I}
 use Rattle.pauli.specs.Letters.{ofLetters}
 use Rattle.pauli.specs.Order.{letterWeight, weightOf, stringsUpTo}
-use Rattle.sheet.specs.declared.Code.{Code}
-use Rattle.sheet.specs.declared.ErrorPair.{ErrorPair}
-use Rattle.sheet.specs.declared.Refusal.{Refusal}
-use Rattle.sheet.specs.Record.{generators, onQubits}
-use Rattle.sheet.specs.Refusals.{refuseIf}
+use Rattle.code_record.specs.declared.Code.{Code}
+use Rattle.code_record.specs.declared.ErrorPair.{ErrorPair}
+use Rattle.code_record.specs.declared.Refusal.{Refusal}
+use Rattle.code_record.specs.Record.{generators, onQubits}
+use Rattle.code_record.specs.Refusals.{refuseIf}
 use Rattle.stabilizer.specs.Group.{InGroupUpToPhase, inGroupUpToPhase}
 
 -- Each of the four checks is given the line that w stands on, and names it.

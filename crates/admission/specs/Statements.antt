@@ -12,13 +12,13 @@ use Rattle.pauli.specs.Letters.{ofLetters, lettersOf}
 use Rattle.pauli.specs.Order.{weightOf, Earlier}
 use Rattle.pauli.specs.Product.{weight}
 use Rattle.pauli.specs.Statements.{StringOrder}
-use Rattle.sheet.specs.declared.Code.{Code}
-use Rattle.sheet.specs.declared.ErrorPair.{ErrorPair}
-use Rattle.sheet.specs.declared.Refusal.{Refusal}
-use Rattle.sheet.specs.declared.Written.{Written}
+use Rattle.code_record.specs.declared.Code.{Code}
+use Rattle.code_record.specs.declared.ErrorPair.{ErrorPair}
+use Rattle.code_record.specs.declared.Refusal.{Refusal}
+use Rattle.code_record.specs.declared.Written.{Written}
+use Rattle.code_record.specs.Record.{claimAt, onQubits, withinLimits, Sized}
 use Rattle.sheet.specs.Reader.{SheetRead}
-use Rattle.sheet.specs.Record.{claimAt, onQubits, withinLimits}
-use Rattle.sheet.specs.Statements.{Among, Sized, phasesModulo4}
+use Rattle.sheet.specs.Statements.{Among, phasesModulo4}
 use Rattle.sheet.specs.Text.{laid, untouched}
 use Rattle.sheet.specs.Writer.{sheetText, writeSheet}
 use Rattle.admission.specs.declared.Admission.{Admission}

@@ -1,6 +1,6 @@
 // Admission: the whole reading of a sheet.
-use sheet::Code;
-use sheet::Refusal;
+use code_record::Code;
+use code_record::Refusal;
 
 pub enum Admission {
     Admitted,

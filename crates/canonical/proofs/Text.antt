@@ -7,14 +7,14 @@ use Prim.Native.Nat.{ℕ, _+_, _*_, _≤_, _<_}
 use native.Mathlib.Omega.{arith}
 use lib.ListN.{length, length-take}
 use Rattle.pauli.specs.Lists.{bytes}
-use Rattle.sheet.specs.declared.Code.{Code}
-use Rattle.sheet.specs.declared.Refusal.{Refusal}
-use Rattle.sheet.specs.declared.Written.{Written}
-use Rattle.sheet.specs.Record.{mostQubits, generators}
+use Rattle.code_record.specs.declared.Code.{Code}
+use Rattle.code_record.specs.declared.Refusal.{Refusal}
+use Rattle.code_record.specs.declared.Written.{Written}
+use Rattle.code_record.specs.Record.{mostQubits, generators}
+use Rattle.code_record.proofs.Limits.{limits}
 use Rattle.sheet.specs.Text.{laid, untouched}
 use Rattle.sheet.specs.Writer.{rowLines}
 use Rattle.sheet.proofs.Lengths.{length-rowLines}
-use Rattle.sheet.proofs.Limits.{limits}
 use Rattle.sheet.proofs.WrittenText.{written-short, written-whole}
 use Rattle.stabilizer.specs.Canonical.{canonicalGenerators, canonicalText, writeCanonical}
 use Rattle.stabilizer.specs.Checks.{groupFault}

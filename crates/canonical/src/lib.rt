@@ -1,16 +1,16 @@
 // The canonical generators of a record as text: an `h=` line for each.
+use code_record::Code;
+use code_record::Refusal;
+use code_record::Written;
 use elimination::Checked;
 use elimination::ReducedRows;
-use sheet::Code;
-use sheet::Refusal;
-use sheet::Written;
 ghost use mathlib.Core.Path.{_≡_};
 ghost use Prim.Native.Nat.{_≤_};
 ghost use lib.ListN.{length};
-ghost use Rattle.sheet.specs.Record.{generatorRoom, mostQubits};
+ghost use Rattle.code_record.specs.Record.{generatorRoom, mostQubits};
+ghost use Rattle.code_record.specs.declared.Written.{Written as WrittenAnswer};
 ghost use Rattle.sheet.specs.Text.{laid};
 ghost use Rattle.sheet.specs.Writer.{rowLines};
-ghost use Rattle.sheet.specs.declared.Written.{Written as WrittenAnswer};
 ghost use Rattle.stabilizer.specs.Canonical.{writeCanonical};
 ghost use Rattle.elimination.specs.Answers.{rowsIn};
 

@@ -11,12 +11,11 @@ use lib.ListN.{length, length-map}
 use Rattle.pauli.specs.declared.Pauli.{Pauli}
 use Rattle.pauli.specs.Lists.{firstOf, readByte}
 use Rattle.pauli.specs.Syndrome.{syndrome}
-use Rattle.sheet.specs.declared.Code.{Code}
+use Rattle.code_record.specs.declared.Code.{Code}
+use Rattle.code_record.specs.Record.{generators, withinLimits, Sized}
+use Rattle.code_record.proofs.Limits.{limits}
 use Rattle.sheet.specs.Reader.{readEach}
-use Rattle.sheet.specs.Record.{generators, withinLimits}
-use Rattle.sheet.specs.Statements.{Sized}
 use Rattle.sheet.proofs.Lengths.{length-generators}
-use Rattle.sheet.proofs.Limits.{limits}
 use Rattle.sheet.proofs.Values.{each-read, each-written, readByte-byte}
 use Rattle.admission.proofs.Admitted.{admitted-as, admitted-lawful}
 use Rattle.decoder.specs.Statements.{SyndromesHaveRBits}

@@ -17,10 +17,9 @@ use Rattle.pauli.specs.Syndrome.{syndrome}
 use Rattle.pauli.proofs.Letters.{length-lettersOf, weight-of-letters, weight-counts-letters}
 use Rattle.pauli.proofs.Product.{weight-product-le}
 use Rattle.pauli.proofs.Syndrome.{same-syndrome}
-use Rattle.sheet.specs.declared.Code.{Code}
-use Rattle.sheet.specs.Record.{generators, radius, onQubits, withinLimits}
-use Rattle.sheet.specs.Statements.{Sized}
-use Rattle.sheet.proofs.Limits.{on-qubits, limits}
+use Rattle.code_record.specs.declared.Code.{Code}
+use Rattle.code_record.specs.Record.{generators, radius, onQubits, withinLimits, Sized}
+use Rattle.code_record.proofs.Limits.{on-qubits, limits}
 use Rattle.stabilizer.specs.Group.{InGroupUpToPhase}
 use Rattle.stabilizer.proofs.Columns.{product-on-qubits}
 use Rattle.admission.specs.Distance.{distanceFault}

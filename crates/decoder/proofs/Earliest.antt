@@ -11,7 +11,7 @@ use Rattle.pauli.specs.Letters.{ofLetters}
 use Rattle.pauli.specs.Order.{weightOf, stringsUpTo}
 use Rattle.pauli.specs.Syndrome.{syndrome}
 use Rattle.pauli.proofs.EarlierOrder.{stringsUpTo-listed}
-use Rattle.sheet.specs.Record.{generators, radius}
+use Rattle.code_record.specs.Record.{generators, radius}
 use Rattle.admission.proofs.Earliest.{search-finds-first}
 use Rattle.decoder.specs.Correction.{hasSyndrome, correction}
 use Rattle.decoder.specs.Statements.{Candidate, CorrectionIsEarliest}

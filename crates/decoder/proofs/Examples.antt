@@ -5,10 +5,10 @@ use Prim.Native.Nat.{_+_, _^_}
 use Rattle.pauli.specs.declared.Letter.the-variants.{I, X, Z}
 use Rattle.pauli.specs.Letters.{ofLetters}
 use Rattle.pauli.specs.Lists.{bytes}
-use Rattle.sheet.specs.declared.Code.{Code}
-use Rattle.sheet.specs.declared.Refusal.{Refusal}
+use Rattle.code_record.specs.declared.Code.{Code}
+use Rattle.code_record.specs.declared.Refusal.{Refusal}
+use Rattle.code_record.specs.Record.{emptyCode}
 use Rattle.sheet.specs.Edges.{nineQubits, sheetA, sheetK}
-use Rattle.sheet.specs.Record.{emptyCode}
 use Rattle.sheet.specs.Text.{untouched}
 use Rattle.admission.specs.Admission.{readSheet}
 use Rattle.decoder.specs.declared.Decoded.{Decoded}

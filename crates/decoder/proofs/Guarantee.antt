@@ -18,11 +18,11 @@ use Rattle.pauli.specs.Product.{product, weight}
 use Rattle.pauli.proofs.Letters.{weight-counts-letters}
 use Rattle.pauli.proofs.Product.{weight-product-le}
 use Rattle.pauli.proofs.Syndrome.{same-syndrome}
-use Rattle.sheet.specs.declared.Code.{Code}
-use Rattle.sheet.specs.declared.Refusal.{Refusal}
+use Rattle.code_record.specs.declared.Code.{Code}
+use Rattle.code_record.specs.declared.Refusal.{Refusal}
+use Rattle.code_record.specs.Record.{generators}
+use Rattle.code_record.proofs.Limits.{limits}
 use Rattle.sheet.specs.Reader.{SheetRead}
-use Rattle.sheet.specs.Record.{generators}
-use Rattle.sheet.proofs.Limits.{limits}
 use Rattle.stabilizer.proofs.Columns.{product-on-qubits}
 use Rattle.admission.specs.Admission.{AdmissibleButForDistance, admissionRefusal}
 use Rattle.admission.specs.Admission.{admitted, readingOf, refusedReading, readSheet}

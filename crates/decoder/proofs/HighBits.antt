@@ -13,8 +13,8 @@ use Rattle.pauli.specs.Product.{symplectic, commutes, anticommutes}
 use Rattle.pauli.specs.Syndrome.{syndrome}
 use Rattle.pauli.proofs.Masks.{dot-comm}
 use Rattle.pauli.proofs.Product.{pauli}
-use Rattle.sheet.specs.Record.{generators, isRow}
-use Rattle.sheet.proofs.Limits.{limits, on-qubits}
+use Rattle.code_record.specs.Record.{generators, isRow}
+use Rattle.code_record.proofs.Limits.{limits, on-qubits}
 use Rattle.stabilizer.proofs.All.{all-of}
 use Rattle.stabilizer.proofs.Independent.{Rows, row-parts}
 use Rattle.decoder.specs.Statements.{HighBitsChangeNothing}

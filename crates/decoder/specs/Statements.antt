@@ -12,13 +12,13 @@ use Rattle.pauli.specs.Letters.{ofLetters, letterByte}
 use Rattle.pauli.specs.Order.{weightOf, Earlier}
 use Rattle.pauli.specs.Product.{product, weight}
 use Rattle.pauli.specs.Syndrome.{syndrome}
-use Rattle.sheet.specs.declared.Code.{Code}
-use Rattle.sheet.specs.declared.ErrorPair.{ErrorPair}
-use Rattle.sheet.specs.declared.Refusal.{Refusal}
-use Rattle.sheet.specs.Record.{generators, radius, onQubits, withinLimits}
+use Rattle.code_record.specs.declared.Code.{Code}
+use Rattle.code_record.specs.declared.ErrorPair.{ErrorPair}
+use Rattle.code_record.specs.declared.Refusal.{Refusal}
+use Rattle.code_record.specs.Record.{generators, radius, onQubits, withinLimits, Sized}
+use Rattle.code_record.specs.Refusals.{values}
 use Rattle.sheet.specs.Reader.{SheetRead}
-use Rattle.sheet.specs.Refusals.{values}
-use Rattle.sheet.specs.Statements.{Sized, RefusalLeaves, Among}
+use Rattle.sheet.specs.Statements.{RefusalLeaves, Among}
 use Rattle.sheet.specs.Text.{laid, untouched}
 use Rattle.stabilizer.specs.Group.{InGroupUpToPhase}
 use Rattle.admission.specs.declared.Admission.{Admission}

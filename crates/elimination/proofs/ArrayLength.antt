@@ -5,7 +5,7 @@ use lib.ListN.{length, length-map}
 use denote.Laws.{Is}
 use denote.Struct.Declared.{row}
 use denote.Struct.Laws.{val}
-use Rattle.sheet.specs.Record.{generatorRoom}
+use Rattle.code_record.specs.Record.{generatorRoom}
 use Rattle.elimination.specs.declared.ReducedRows.{ReducedRows}
 use Rattle.elimination.proofs.ReducedRows.{the-type}
 use Rattle.elimination.proofs.ReducedRows.Laws.{the-laws}

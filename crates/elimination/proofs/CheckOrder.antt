@@ -3,10 +3,10 @@ use mathlib.Core.Bool.{true, false, not}
 use mathlib.Core.List.{[]}
 use mathlib.Core.Option.{Option, none, some}
 use mathlib.Core.Path.{_≡_, ap, ap₂, sym, _∙_}
-use Rattle.sheet.specs.declared.Code.{Code}
-use Rattle.sheet.specs.declared.Refusal.{Refusal}
-use Rattle.sheet.specs.Record.{generators, generatorsAt, withinLimits, limitsFault}
-use Rattle.sheet.specs.Refusals.{refuseIf, _then_}
+use Rattle.code_record.specs.declared.Code.{Code}
+use Rattle.code_record.specs.declared.Refusal.{Refusal}
+use Rattle.code_record.specs.Record.{generators, generatorsAt, withinLimits, limitsFault}
+use Rattle.code_record.specs.Refusals.{refuseIf, _then_}
 use Rattle.stabilizer.specs.Canonical.{canonicalGenerators}
 use Rattle.stabilizer.specs.Checks.{firstFault, clash, dependence, generatorFault, groupFault}
 use Rattle.elimination.specs.declared.Checked.{Checked}

@@ -5,7 +5,7 @@ use mathlib.Core.Path.{_≡_, refl, sym, _∙_}
 use Prim.Native.Nat.{ℕ}
 use Rattle.pauli.specs.declared.Pauli.{Pauli}
 use Rattle.pauli.specs.declared.Sign.{Sign}
-use Rattle.sheet.specs.declared.Refusal.{Refusal}
+use Rattle.code_record.specs.declared.Refusal.{Refusal}
 use Rattle.stabilizer.proofs.Theorems.{canonical-refusal-numbers}
 use Rattle.elimination.specs.Answers.{checkedRefusal, membershipRefusal, eliminated, elimination}
 use Rattle.elimination.specs.Answers.{memberAnswer, membership}

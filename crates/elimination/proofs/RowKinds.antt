@@ -7,8 +7,8 @@ use lib.Dec.{eqb}
 use borrow.Author.Tests.{eq-eqb, ne-eqb}
 use Rattle.pauli.specs.declared.Pauli.{Pauli}
 use Rattle.pauli.specs.Product.{identity, modulo4, sameMasks, samePauli, hasPhase}
-use Rattle.sheet.proofs.Limits.{both}
-use Rattle.sheet.proofs.RowLimits.{eqb-swap}
+use Rattle.code_record.proofs.Limits.{both}
+use Rattle.code_record.proofs.RowLimits.{eqb-swap}
 use Rattle.stabilizer.specs.Canonical.{cleared, reduced, insertByPivot, added}
 use Rattle.stabilizer.specs.Checks.{minusIdentity}
 use Rattle.stabilizer.proofs.Echelon.{modulo4-masks}

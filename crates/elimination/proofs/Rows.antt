@@ -7,8 +7,8 @@ use native.Mathlib.Omega.{arith}
 use lib.ListN.{length, drop, getD, set, length-append, length-take}
 use Rattle.pauli.specs.declared.Pauli.{Pauli}
 use Rattle.pauli.specs.Product.{identity}
-use Rattle.sheet.proofs.Filled.{take-filled, filled-more}
-use Rattle.sheet.specs.Record.{generatorRoom}
+use Rattle.code_record.proofs.Filled.{take-filled, filled-more}
+use Rattle.code_record.specs.Record.{generatorRoom}
 use Rattle.stabilizer.specs.Canonical.{cleared, reduced}
 use Rattle.elimination.specs.declared.ReducedRows.{ReducedRows}
 use Rattle.elimination.specs.Answers.{rowsIn, reducedOf}

@@ -9,10 +9,10 @@ use Rattle.pauli.specs.declared.Pauli.{Pauli}
 use Rattle.pauli.specs.declared.Sign.the-variants.{Plus, Minus}
 use Rattle.pauli.specs.Letters.{rowOf}
 use Rattle.pauli.specs.Product.{identity, sameMasks, samePauli}
-use Rattle.sheet.specs.declared.Code.{Code}
-use Rattle.sheet.specs.declared.Refusal.{Refusal}
-use Rattle.sheet.specs.Record.{isRow, onQubits, generators, generatorsAt, withinLimits, limitsFault}
-use Rattle.sheet.proofs.Limits.{limits}
+use Rattle.code_record.specs.declared.Code.{Code}
+use Rattle.code_record.specs.declared.Refusal.{Refusal}
+use Rattle.code_record.specs.Record.{isRow, onQubits, generators, generatorsAt, withinLimits, limitsFault}
+use Rattle.code_record.proofs.Limits.{limits}
 use Rattle.stabilizer.specs.Canonical.{reduced, reducesToIdentity, canonicalGenerators}
 use Rattle.stabilizer.specs.Checks.{minusIdentity, generatorFault, groupFault}
 use Rattle.stabilizer.specs.Group.{memberSign}

@@ -5,9 +5,9 @@ use Prim.Native.Nat.{ℕ}
 use lib.ListN.{length, take}
 use Rattle.pauli.specs.declared.Pauli.{Pauli}
 use Rattle.pauli.specs.declared.Sign.{Sign}
-use Rattle.sheet.specs.declared.Code.{Code}
-use Rattle.sheet.specs.declared.Refusal.{Refusal}
-use Rattle.sheet.specs.Record.{generatorRoom, filled, generators}
+use Rattle.code_record.specs.declared.Code.{Code}
+use Rattle.code_record.specs.declared.Refusal.{Refusal}
+use Rattle.code_record.specs.Record.{generatorRoom, filled, generators}
 use Rattle.stabilizer.specs.Canonical.{canonicalGenerators}
 use Rattle.stabilizer.specs.Checks.{groupFault}
 use Rattle.stabilizer.specs.Group.{memberSign}

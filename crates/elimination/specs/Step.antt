@@ -6,8 +6,8 @@ use Prim.Native.Nat.{ℕ}
 use lib.Dec.{ltb}
 use Rattle.pauli.specs.declared.Pauli.{Pauli}
 use Rattle.pauli.specs.Product.{identity, sameMasks, samePauli}
-use Rattle.sheet.specs.declared.Code.{Code}
-use Rattle.sheet.specs.Record.{generators, generatorsAt}
+use Rattle.code_record.specs.declared.Code.{Code}
+use Rattle.code_record.specs.Record.{generators, generatorsAt}
 use Rattle.stabilizer.specs.Canonical.{pivot, reduced, added, canonicalGenerators}
 use Rattle.stabilizer.specs.Checks.{minusIdentity, firstFault, dependence}
 use Rattle.elimination.specs.declared.ReducedRows.{ReducedRows}

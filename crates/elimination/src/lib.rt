@@ -1,12 +1,12 @@
 // Elimination on the rows of a record: one step adds a row to rows in reduced echelon form and tells what the row was.
 // 7 and 8, membership in the group and the canonical generators follow from it; 6, which comes before them, compares
 // rows two by two.
+use code_record::Code;
+use code_record::Family;
+use code_record::GENERATOR_ROOM;
+use code_record::Refusal;
 use pauli::Pauli;
 use pauli::Sign;
-use sheet::Code;
-use sheet::Family;
-use sheet::GENERATOR_ROOM;
-use sheet::Refusal;
 ghost use mathlib.Core.Bool.{true};
 ghost use mathlib.Core.List.{[], map};
 ghost use mathlib.Core.Option.{none, some};
@@ -16,7 +16,7 @@ ghost use lib.ListN.{take, getD};
 ghost use Rattle.pauli.specs.Lists.{anyOf};
 ghost use Rattle.pauli.specs.Masks.{bits};
 ghost use Rattle.pauli.specs.Product.{identity, anticommutes, modulo4, sameMasks};
-ghost use Rattle.sheet.specs.Record.{generatorRoom, generators, generatorsAt, withinLimits};
+ghost use Rattle.code_record.specs.Record.{generatorRoom, generators, generatorsAt, withinLimits};
 ghost use Rattle.stabilizer.specs.Canonical.{firstOne, column, pivot, cleared, reduced, reducesToIdentity};
 ghost use Rattle.stabilizer.specs.Canonical.{insertByPivot};
 ghost use Rattle.stabilizer.specs.Checks.{firstFault, clash};

@@ -11,10 +11,10 @@ use lib.ListN.{take}
 use denote.Enum.Declared.{tagOf}
 use types.Run.{OneOf, miss}
 use Rattle.pauli.specs.Lists.{bytes, readByte, firstOf}
-use Rattle.sheet.specs.declared.Family.{Family}
+use Rattle.code_record.specs.declared.Family.{Family}
+use Rattle.code_record.specs.Record.{rowKey}
+use Rattle.code_record.proofs.Limits.{both}
 use Rattle.sheet.specs.Reader.{begins}
-use Rattle.sheet.specs.Record.{rowKey}
-use Rattle.sheet.proofs.Limits.{both}
 use Rattle.sheet.proofs.Values.{readByte-byte}
 use Rattle.lines.specs.declared.LineKind.{LineKind}
 use Rattle.lines.proofs.LineKind.{the-type}

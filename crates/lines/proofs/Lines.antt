@@ -14,11 +14,11 @@ use Rattle.pauli.specs.declared.Pauli.{Pauli}
 use Rattle.pauli.specs.declared.Sign.{Sign}
 use Rattle.pauli.specs.Letters.{readSign, rowOf}
 use Rattle.pauli.specs.Lists.{bytes}
-use Rattle.sheet.specs.declared.Family.{Family}
-use Rattle.sheet.specs.declared.Refusal.{Refusal}
+use Rattle.code_record.specs.declared.Family.{Family}
+use Rattle.code_record.specs.declared.Refusal.{Refusal}
+use Rattle.code_record.specs.Record.{mostQubits, mostDistance, rowKey}
 use Rattle.sheet.specs.Reader.{Reader, got, stop, continue, begins, gotOr, readLetters, readRow, inRange}
 use Rattle.sheet.specs.Reader.{isLine, lineOf, readNumber, qubitDigits, qubitLine, distanceLine, rowLine, claimLine}
-use Rattle.sheet.specs.Record.{mostQubits, mostDistance, rowKey}
 use Rattle.sheet.specs.Text.{lineFeed}
 use Rattle.sheet.proofs.Line.{nonzero-within}
 use Rattle.lines.specs.declared.LineKind.{LineKind}

@@ -7,10 +7,10 @@ use Prim.Native.Nat.{ℕ, _-_, _<_, _≤_}
 use native.Mathlib.Omega.{arith}
 use lib.ListN.{length, drop, length-drop}
 use Rattle.pauli.specs.declared.Pauli.{Pauli}
-use Rattle.sheet.specs.declared.Lines.{Lines}
-use Rattle.sheet.specs.declared.Refusal.{Refusal}
+use Rattle.code_record.specs.declared.Lines.{Lines}
+use Rattle.code_record.specs.declared.Refusal.{Refusal}
+use Rattle.code_record.proofs.Limits.{bounds-between, outside-between}
 use Rattle.sheet.specs.Reader.{Parsed, Reader, got, stop, done, continue, inRange}
-use Rattle.sheet.proofs.Limits.{bounds-between, outside-between}
 use Rattle.lines.specs.Answers.{linesOf, valueOr, numberAnswer, rowAnswer}
 
 pub bytes-used : (s : List ℕ) (used : ℕ) → used ≤ length s → used ≡ length s - length (drop used s)

@@ -14,8 +14,8 @@ use Rattle.pauli.specs.declared.Sign.{Sign}
 use Rattle.pauli.specs.declared.Sign.the-variants.{Plus}
 use Rattle.pauli.specs.Letters.{xBit, zBit, xMask, zMask, maskOf, readLetter, readSign, rowOf, signedRow, ofLetters}
 use Rattle.pauli.proofs.Letters.{xMask-lt, zMask-lt}
+use Rattle.code_record.proofs.Limits.{bounds-between, outside-between}
 use Rattle.sheet.specs.Reader.{readDigit, readEach, readNumber, numberOf, readLetters, readRow}
-use Rattle.sheet.proofs.Limits.{bounds-between, outside-between}
 use Rattle.sheet.proofs.Values.{digit-written, number-from, letters-count}
 
 -- ---- numbers

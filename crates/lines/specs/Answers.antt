@@ -8,9 +8,9 @@ use lib.Dec.{ltb}
 use lib.ListN.{length, take}
 use Rattle.pauli.specs.declared.Pauli.{Pauli}
 use Rattle.pauli.specs.Product.{identity}
-use Rattle.sheet.specs.declared.Lines.{Lines}
-use Rattle.sheet.specs.declared.Refusal.{Refusal}
-use Rattle.sheet.specs.Record.{mostQubits}
+use Rattle.code_record.specs.declared.Lines.{Lines}
+use Rattle.code_record.specs.declared.Refusal.{Refusal}
+use Rattle.code_record.specs.Record.{mostQubits}
 use Rattle.sheet.specs.Reader.{Parsed, Reader, got, stop, continue, lineOf, readNumber, readRow}
 use Rattle.lines.specs.declared.Number.{Number}
 use Rattle.lines.specs.declared.Letters.{Letters}

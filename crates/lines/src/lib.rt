@@ -1,21 +1,21 @@
 // The readers of a sheet's single lines. Each is lent the bytes that remain, and answers how many of them the line
 // took, or the refusal that ends the reading, with the line's value beside it.
+use code_record::Family;
+use code_record::Lines;
+use code_record::MOST_DISTANCE;
+use code_record::MOST_QUBITS;
+use code_record::Refusal;
 use pauli::Letter;
 use pauli::LetterRead;
 use pauli::Pauli;
 use pauli::Sign;
 use pauli::SignRead;
-use sheet::Family;
-use sheet::Lines;
-use sheet::MOST_DISTANCE;
-use sheet::MOST_QUBITS;
-use sheet::Refusal;
 ghost use mathlib.Core.Path.{_≡_};
 ghost use mathlib.Core.List.{List};
 ghost use Prim.Native.Nat.{ℕ, _+_, _≤_, _<_};
 ghost use lib.ListN.{length};
 ghost use Rattle.pauli.specs.Lists.{bytes};
-ghost use Rattle.sheet.specs.Record.{mostQubits, rowKey};
+ghost use Rattle.code_record.specs.Record.{mostQubits, rowKey};
 ghost use Rattle.sheet.specs.Reader.{stop, begins, isLine, qubitDigits, readDigit, readNumber, readLetters};
 ghost use Rattle.sheet.specs.Reader.{inRange, qubitLine, distanceLine, claimLine};
 ghost use Rattle.lines.specs.LineKinds.{lineKind};

@@ -7,10 +7,10 @@ use lib.ListN.{length, drop, set, replicate, length-append, length-drop}
 use lib.Seq.{drop-drop}
 use Rattle.pauli.specs.declared.Pauli.{Pauli}
 use Rattle.pauli.specs.Product.{identity}
-use Rattle.sheet.specs.declared.Refusal.{Refusal}
+use Rattle.code_record.specs.declared.Refusal.{Refusal}
+use Rattle.code_record.specs.Record.{filled}
+use Rattle.code_record.proofs.Filled.{filled-more}
 use Rattle.sheet.specs.Reader.{Parsed, Reader, got, stop, done, continue}
-use Rattle.sheet.specs.Record.{filled}
-use Rattle.sheet.proofs.Filled.{filled-more}
 
 -- The rows read so far stand before those that the rest gives.
 unfoldable pub prepended : List Pauli → Parsed (List Pauli) → Parsed (List Pauli)

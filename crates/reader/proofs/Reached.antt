@@ -7,13 +7,13 @@ use native.Mathlib.Omega.{arith}
 use lib.ListN.{length, take, drop, length-append, length-drop}
 use lib.Seq.{drop-drop, drop-at}
 use Rattle.pauli.specs.declared.Pauli.{Pauli}
-use Rattle.sheet.specs.declared.Lines.{Lines}
-use Rattle.sheet.specs.declared.Refusal.{Refusal}
-use Rattle.sheet.specs.declared.Family.{Family}
+use Rattle.code_record.specs.declared.Lines.{Lines}
+use Rattle.code_record.specs.declared.Refusal.{Refusal}
+use Rattle.code_record.specs.declared.Family.{Family}
 use Rattle.pauli.specs.Lists.{bytes}
 use Rattle.pauli.specs.Product.{identity}
+use Rattle.code_record.specs.Record.{mostQubits, rowKey}
 use Rattle.sheet.specs.Reader.{Parsed, Reader, got, stop, begins, readRow, rowLine, claimLine}
-use Rattle.sheet.specs.Record.{mostQubits, rowKey}
 use Rattle.sheet.proofs.Consumed.{claim-line-outcome}
 use Rattle.sheet.proofs.Line.{line-outcome}
 use Rattle.sheet.proofs.Values.{row-written}

@@ -13,10 +13,10 @@ use lib.Seq.{take-append-add}
 use Rattle.pauli.specs.declared.Pauli.{Pauli}
 use Rattle.pauli.specs.Lists.{bytes}
 use Rattle.pauli.specs.Product.{identity}
-use Rattle.sheet.specs.declared.Refusal.{Refusal}
+use Rattle.code_record.specs.declared.Refusal.{Refusal}
+use Rattle.code_record.specs.Record.{generatorRoom, logicalRoom, mostGenerators, filled}
 use Rattle.sheet.specs.Reader.{Parsed, Reader, got, stop, done, continue, begins, rowLine, rowsUpTo}
 use Rattle.sheet.specs.Reader.{generatorLines, countedGenerators, logicalLines, countedLogicals}
-use Rattle.sheet.specs.Record.{generatorRoom, logicalRoom, mostGenerators, filled}
 use Rattle.lines.proofs.Reading.{then-got, then-stop}
 use Rattle.reader.specs.Answers.{mapped}
 

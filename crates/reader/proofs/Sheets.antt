@@ -5,15 +5,15 @@ use Prim.Native.Nat.{ℕ, suc, _+_, _-_, _*_, _<_, _≤_}
 use native.Mathlib.Omega.{arith}
 use lib.ListN.{length, drop}
 use Rattle.pauli.specs.declared.Pauli.{Pauli}
-use Rattle.sheet.specs.declared.Lines.{Lines}
-use Rattle.sheet.specs.declared.LinesReading.{LinesReading}
-use Rattle.sheet.specs.declared.Refusal.{Refusal}
+use Rattle.code_record.specs.declared.Lines.{Lines}
+use Rattle.code_record.specs.declared.LinesReading.{LinesReading}
+use Rattle.code_record.specs.declared.Refusal.{Refusal}
+use Rattle.code_record.specs.Record.{logicalRoom, pairCount, filled, codeOf, firstGeneratorAt}
+use Rattle.code_record.specs.Record.{logicalCount, generatorsAt, logicalsAt, claimAt}
+use Rattle.code_record.proofs.Limits.{limits}
 use Rattle.sheet.specs.Reader.{Parsed, Reader, SheetRead, got, stop, done, continue, nothingBehind, answered}
 use Rattle.sheet.specs.Reader.{qubitLine, distanceLine, generatorLines, logicalLines, claimLine, linesAfter, sheetLines}
-use Rattle.sheet.specs.Record.{logicalRoom, pairCount, filled, codeOf, firstGeneratorAt}
-use Rattle.sheet.specs.Record.{logicalCount, generatorsAt, logicalsAt, claimAt}
 use Rattle.sheet.specs.Statements.{ReadIsLawful}
-use Rattle.sheet.proofs.Limits.{limits}
 use Rattle.lines.proofs.Reading.{bytes-used, then-got, then-stop}
 use Rattle.reader.specs.Answers.{emptyBeside, mapped, countedRows}
 use Rattle.reader.proofs.RowLines.{mapped-stop, mapped-got}

@@ -4,10 +4,10 @@ use mathlib.Core.Path.{_≡_}
 use Prim.Native.Nat.{ℕ, _≤_}
 use lib.ListN.{length, drop}
 use Rattle.pauli.specs.declared.Pauli.{Pauli}
-use Rattle.sheet.specs.declared.Lines.{Lines}
-use Rattle.sheet.specs.declared.LinesReading.{LinesReading}
+use Rattle.code_record.specs.declared.Lines.{Lines}
+use Rattle.code_record.specs.declared.LinesReading.{LinesReading}
+use Rattle.code_record.specs.Record.{generatorRoom, logicalRoom, filled, emptyCode}
 use Rattle.sheet.specs.Reader.{Parsed, Reader, SheetRead, got, stop, done, continue, answered}
-use Rattle.sheet.specs.Record.{generatorRoom, logicalRoom, filled, emptyCode}
 use Rattle.reader.specs.declared.Rows.{Rows}
 use Rattle.reader.specs.declared.Logicals.{Logicals}
 

@@ -1,19 +1,20 @@
 // The reader of a sheet: its lines in their order. Each reader is lent the bytes that remain, and answers how many of
 // them it took, or the refusal that ends the reading.
+use code_record::Code;
+use code_record::FIRST_GENERATOR_AT;
+use code_record::Family;
+use code_record::GENERATOR_ROOM;
+use code_record::LOGICAL_ROOM;
+use code_record::LONGEST_INPUT;
+use code_record::Lines;
+use code_record::LinesReading;
+use code_record::Refusal;
 use pauli::Pauli;
-use sheet::Code;
-use sheet::FIRST_GENERATOR_AT;
-use sheet::Family;
-use sheet::GENERATOR_ROOM;
-use sheet::LOGICAL_ROOM;
-use sheet::LONGEST_INPUT;
-use sheet::Lines;
-use sheet::LinesReading;
-use sheet::Refusal;
 ghost use mathlib.Core.Path.{_≡_};
 ghost use Prim.Native.Nat.{_+_, _≤_};
 ghost use lib.ListN.{length, take};
-ghost use Rattle.sheet.specs.Record.{generatorRoom, logicalRoom, mostQubits, mostGenerators, firstGeneratorAt, rowKey};
+ghost use Rattle.code_record.specs.Record.{generatorRoom, logicalRoom, mostQubits, mostGenerators, firstGeneratorAt};
+ghost use Rattle.code_record.specs.Record.{rowKey};
 ghost use Rattle.sheet.specs.Reader.{rowsUpTo, generatorLines, logicalLines, linesAfter, sheetLines};
 ghost use Rattle.sheet.specs.Reader.{answered, linesReading, formReading, behind};
 ghost use Rattle.reader.specs.Answers.{ReadsRows, ReadsLogicals, emptyBeside, ReadsAfter};
@@ -68,7 +69,7 @@ fn generator_lines(s: &[u8], n: usize) -> Rows
     let generators = rows_up_to(
         s,
         Family::Generator,
-        sheet::most_generators(n),
+        code_record::most_generators(n),
         n,
         FIRST_GENERATOR_AT,
     );
@@ -157,7 +158,7 @@ fn lines_after(
     ensures { λ q. ⌜ ReadsAfter (now (s .entry)) from generators (linesAfter n d at) q ⌝ }
 {
     let r = generators.count;
-    let k = sheet::pair_count(n, r);
+    let k = code_record::pair_count(n, r);
     let xs = logical_lines(&s[from..], Family::LogicalX, n, k, at);
     let answer = xs.answer;
     let Lines::Read { used: x_bytes } = answer else {

@@ -9,13 +9,12 @@ use lib.Dec.{lit≤}
 use lib.ListN.{length, length-append}
 use Rattle.pauli.specs.declared.Letter.{Letter}
 use Rattle.pauli.specs.Lists.{bytes}
-use Rattle.sheet.specs.declared.Code.{Code}
-use Rattle.sheet.specs.declared.Refusal.{Refusal}
-use Rattle.sheet.specs.Record.{generatorsAt, pairCount, logicalCount, logicalsAt, claimAt}
-use Rattle.sheet.specs.Refusals.{values}
-use Rattle.sheet.specs.Statements.{Sized}
+use Rattle.code_record.specs.declared.Code.{Code}
+use Rattle.code_record.specs.declared.Refusal.{Refusal}
+use Rattle.code_record.specs.Record.{generatorsAt, pairCount, logicalCount, logicalsAt, claimAt, Sized}
+use Rattle.code_record.specs.Refusals.{values}
+use Rattle.code_record.proofs.Limits.{Limits}
 use Rattle.sheet.proofs.Lengths.{length-line, length-letterText, length-generators, length-logicalXs, length-logicalZs}
-use Rattle.sheet.proofs.Limits.{Limits}
 use Rattle.sheet.proofs.Numbers.{IfRefused}
 use Rattle.admission.specs.Admission.{codeFault}
 use Rattle.admission.specs.Distance.{refutingPair}

@@ -12,13 +12,14 @@ use lib.Dec.{lit≤, eqb, ltb}
 use lib.ListN.{length, take, drop}
 use Rattle.pauli.specs.declared.Pauli.{Pauli}
 use Rattle.pauli.specs.Lists.{bytes}
-use Rattle.sheet.specs.declared.Refusal.{Refusal}
+use Rattle.code_record.specs.declared.Refusal.{Refusal}
+use Rattle.code_record.specs.Record.{mostQubits, mostDistance, longestInput, firstGeneratorAt, pairCount}
+use Rattle.code_record.specs.Record.{mostGenerators}
+use Rattle.code_record.specs.Record.{between}
+use Rattle.code_record.proofs.Limits.{between-bounds}
 use Rattle.sheet.specs.Reader.{stop, done, begins, isLine, lineOf, readLine, readNumber, readRow, readLetters}
 use Rattle.sheet.specs.Reader.{inRange, qubitLine, distanceLine, rowLine, rowsUpTo, countedGenerators, generatorLines}
 use Rattle.sheet.specs.Reader.{countedLogicals, logicalLines, claimLine, linesAfter, sheetLines, readLines}
-use Rattle.sheet.specs.Record.{mostQubits, mostDistance, longestInput, firstGeneratorAt, pairCount, mostGenerators}
-use Rattle.sheet.specs.Record.{between}
-use Rattle.sheet.proofs.Limits.{between-bounds}
 use Rattle.sheet.proofs.Outcome.{Outcome, gets, stops, continue-outcome, cond-outcome, gotOr-outcome}
 use Rattle.reporting.proofs.Brief.{lastLine, Brief, brief}
 

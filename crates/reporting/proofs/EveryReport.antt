@@ -10,8 +10,8 @@ use Prim.Native.Nat.{ℕ, zero, suc, _≤_, _<_}
 use native.Mathlib.Nat.{ℕ-set}
 use native.Mathlib.Omega.{arith}
 use lib.ListN.{length, length-append}
-use Rattle.sheet.specs.declared.Code.{Code}
-use Rattle.sheet.specs.declared.Refusal.{Refusal}
+use Rattle.code_record.specs.declared.Code.{Code}
+use Rattle.code_record.specs.declared.Refusal.{Refusal}
 use Rattle.sheet.specs.Reader.{SheetRead, Parsed, got, stop, continue, readLines, nothingBehind, readForm}
 use Rattle.sheet.specs.Writer.{sheetText}
 use Rattle.sheet.proofs.Lengths.{sheetText-le}

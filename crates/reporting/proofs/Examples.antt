@@ -11,11 +11,11 @@ use Rattle.pauli.specs.declared.Sign.the-variants.{Plus, Minus}
 use Rattle.pauli.specs.Letters.{signedRow, ofLetters}
 use Rattle.pauli.specs.Lists.{bytes}
 use Rattle.pauli.proofs.Table.{each}
-use Rattle.sheet.specs.declared.Code.{Code}
-use Rattle.sheet.specs.declared.Refusal.{Refusal}
-use Rattle.sheet.specs.declared.Written.{Written}
+use Rattle.code_record.specs.declared.Code.{Code}
+use Rattle.code_record.specs.declared.Refusal.{Refusal}
+use Rattle.code_record.specs.declared.Written.{Written}
+use Rattle.code_record.specs.Record.{codeOf}
 use Rattle.sheet.specs.Edges.{nineQubits, eightQubits, fourQubits, sheetC, sheetK}
-use Rattle.sheet.specs.Record.{codeOf}
 use Rattle.sheet.specs.Text.{lineFeed, untouched}
 use Rattle.sheet.specs.Writer.{sheetText}
 use Rattle.reporting.specs.Definitions.{definitions}

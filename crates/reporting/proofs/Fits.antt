@@ -12,15 +12,15 @@ use lib.ListN.{length, length-append, length-map}
 use Rattle.pauli.specs.declared.Letter.{Letter}
 use Rattle.pauli.specs.Letters.{letterByte}
 use Rattle.pauli.specs.Lists.{bytes}
-use Rattle.sheet.specs.declared.Code.{Code}
-use Rattle.sheet.specs.declared.Refusal.{Refusal}
+use Rattle.code_record.specs.declared.Code.{Code}
+use Rattle.code_record.specs.declared.Refusal.{Refusal}
+use Rattle.code_record.specs.Record.{generators, pairCount, logicalCount, radius, mostQubits, longestInput, Sized}
+use Rattle.code_record.specs.Refusals.{values}
+use Rattle.code_record.proofs.Limits.{Limits, limits}
 use Rattle.sheet.specs.Reader.{SheetRead, Parsed, got, stop, readLines}
-use Rattle.sheet.specs.Record.{generators, pairCount, logicalCount, radius, mostQubits, longestInput}
-use Rattle.sheet.specs.Refusals.{values}
-use Rattle.sheet.specs.Statements.{Sized, ReadIsLawful}
+use Rattle.sheet.specs.Statements.{ReadIsLawful}
 use Rattle.sheet.specs.Text.{digitsOf, decimal}
 use Rattle.sheet.proofs.Lengths.{length-line, length-rowLines, length-generators}
-use Rattle.sheet.proofs.Limits.{Limits, limits}
 use Rattle.sheet.proofs.Numbers.{IfRefused}
 use Rattle.sheet.proofs.Outcome.{Outcome, gets, stops}
 use Rattle.sheet.proofs.ReadBack.{reads-are-lawful, read-within}

@@ -10,8 +10,8 @@ use Rattle.pauli.specs.Letters.{ofLetters}
 use Rattle.pauli.specs.Lists.{firstOf}
 use Rattle.pauli.specs.Order.{stringsUpTo}
 use Rattle.pauli.specs.Syndrome.{syndrome}
-use Rattle.sheet.specs.declared.Code.{Code}
-use Rattle.sheet.specs.Record.{pairCount, logicalCount, radius}
+use Rattle.code_record.specs.declared.Code.{Code}
+use Rattle.code_record.specs.Record.{pairCount, logicalCount, radius}
 use Rattle.sheet.specs.Text.{line}
 use Rattle.stabilizer.specs.Canonical.{canonicalText}
 use Rattle.admission.specs.Admission.{readSheet}

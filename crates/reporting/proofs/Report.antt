@@ -9,10 +9,10 @@ use Prim.Native.Nat.{ℕ, _+_, _≤_, _<_}
 use lib.ListN.{length}
 use Rattle.pauli.specs.Lists.{anyOf}
 use Rattle.pauli.specs.declared.Letter.{Letter}
-use Rattle.sheet.specs.declared.Code.{Code}
-use Rattle.sheet.specs.declared.Refusal.{Refusal}
+use Rattle.code_record.specs.declared.Code.{Code}
+use Rattle.code_record.specs.declared.Refusal.{Refusal}
+use Rattle.code_record.specs.Record.{longestInput}
 use Rattle.sheet.specs.Reader.{SheetRead, got, readLines}
-use Rattle.sheet.specs.Record.{longestInput}
 use Rattle.sheet.specs.Statements.{ReadIsLawful}
 use Rattle.sheet.specs.Text.{line}
 use Rattle.sheet.specs.Writer.{sheetText}

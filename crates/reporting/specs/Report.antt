@@ -7,12 +7,12 @@ use lib.ListN.{length}
 use Rattle.pauli.specs.Lists.{bytes}
 use Rattle.pauli.specs.declared.Letter.{Letter}
 use Rattle.pauli.specs.Letters.{letterByte, letterText}
-use Rattle.sheet.specs.declared.Code.{Code}
-use Rattle.sheet.specs.declared.ErrorPair.{ErrorPair}
-use Rattle.sheet.specs.declared.Refusal.{Refusal}
-use Rattle.sheet.specs.declared.Written.{Written}
-use Rattle.sheet.specs.Refusals.{values}
-use Rattle.sheet.specs.Record.{logicalCount, radius}
+use Rattle.code_record.specs.declared.Code.{Code}
+use Rattle.code_record.specs.declared.ErrorPair.{ErrorPair}
+use Rattle.code_record.specs.declared.Refusal.{Refusal}
+use Rattle.code_record.specs.declared.Written.{Written}
+use Rattle.code_record.specs.Refusals.{values}
+use Rattle.code_record.specs.Record.{logicalCount, radius}
 use Rattle.sheet.specs.Text.{line, decimal, After, written}
 use Rattle.sheet.specs.Reader.{SheetRead, Reader, Parsed, got, stop, done, _andThen_, readLine, readLines}
 use Rattle.stabilizer.specs.Canonical.{canonicalText}

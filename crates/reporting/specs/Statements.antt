@@ -11,13 +11,13 @@ use Rattle.pauli.specs.Letters.{letterByte, letterText}
 use Rattle.pauli.specs.Lists.{bytes}
 use Rattle.pauli.specs.Product.{weight}
 use Rattle.pauli.specs.Syndrome.{syndrome}
-use Rattle.sheet.specs.declared.Code.{Code}
-use Rattle.sheet.specs.declared.ErrorPair.{ErrorPair}
-use Rattle.sheet.specs.declared.Refusal.{Refusal}
-use Rattle.sheet.specs.declared.Written.{Written}
+use Rattle.code_record.specs.declared.Code.{Code}
+use Rattle.code_record.specs.declared.ErrorPair.{ErrorPair}
+use Rattle.code_record.specs.declared.Refusal.{Refusal}
+use Rattle.code_record.specs.declared.Written.{Written}
+use Rattle.code_record.specs.Record.{generators, onQubits, radius, longestInput}
+use Rattle.code_record.specs.Refusals.{writtenRefusal}
 use Rattle.sheet.specs.Reader.{SheetRead, got, stop, readLines, readForm}
-use Rattle.sheet.specs.Record.{generators, onQubits, radius, longestInput}
-use Rattle.sheet.specs.Refusals.{writtenRefusal}
 use Rattle.sheet.specs.Statements.{RefusalLeaves, Among}
 use Rattle.sheet.specs.Text.{line, decimal, laid, untouched}
 use Rattle.admission.specs.declared.Admission.{Admission}

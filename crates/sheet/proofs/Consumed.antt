@@ -14,15 +14,15 @@ use Rattle.pauli.specs.declared.Pauli.{Pauli}
 use Rattle.pauli.specs.Letters.{letterText, rowText}
 use Rattle.pauli.specs.Lists.{bytes, allOf, anyOf}
 use Rattle.pauli.specs.Product.{modulo4}
-use Rattle.sheet.specs.declared.Refusal.{Refusal}
+use Rattle.code_record.specs.declared.Refusal.{Refusal}
+use Rattle.code_record.specs.Record.{mostQubits, mostDistance, mostGenerators, between, isRow}
+use Rattle.code_record.proofs.Limits.{neither, all-first, between-bounds}
 use Rattle.sheet.specs.Reader.{Reader, stop, done, _andThen_, begins, readLine, readNumber, readRow, readLetters}
 use Rattle.sheet.specs.Reader.{inRange, qubitLine, distanceLine, rowLine, rowsUpTo, countedGenerators}
 use Rattle.sheet.specs.Reader.{generatorLines, countedLogicals, logicalLines, claimLine}
-use Rattle.sheet.specs.Record.{mostQubits, mostDistance, mostGenerators, between, isRow}
 use Rattle.sheet.specs.Statements.{Among}
 use Rattle.sheet.specs.Text.{line, decimal}
 use Rattle.sheet.specs.Writer.{rowLines}
-use Rattle.sheet.proofs.Limits.{neither, all-first, between-bounds}
 use Rattle.sheet.proofs.Line.{line-outcome}
 use Rattle.sheet.proofs.Outcome.{Outcome, gets, stops, continue-outcome, cond-outcome, Took}
 use Rattle.sheet.proofs.Values.{Row, Claim, number-written, row-written, claim-written}

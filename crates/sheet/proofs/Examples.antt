@@ -9,49 +9,21 @@ use lib.ListN.{length, take, replicate}
 use Rattle.pauli.specs.declared.Letter.the-variants.{I, X, Y, Z}
 use Rattle.pauli.specs.declared.Sign.the-variants.{Plus, Minus}
 use Rattle.pauli.specs.Letters.{signedRow, ofLetters}
-use Rattle.pauli.specs.declared.Pauli.{Pauli}
-use Rattle.pauli.specs.Lists.{bytes, allOf, anyOf}
-use Rattle.pauli.specs.Product.{identity}
+use Rattle.pauli.specs.Lists.{bytes, allOf}
 use Rattle.pauli.proofs.Table.{each}
-use Rattle.sheet.specs.declared.Code.{Code}
-use Rattle.sheet.specs.declared.Family.{Family}
-use Rattle.sheet.specs.declared.Lines.{Lines}
-use Rattle.sheet.specs.declared.Refusal.{Refusal}
-use Rattle.sheet.specs.declared.Written.{Written}
+use Rattle.code_record.specs.declared.Code.{Code}
+use Rattle.code_record.specs.declared.Lines.{Lines}
+use Rattle.code_record.specs.declared.Refusal.{Refusal}
+use Rattle.code_record.specs.declared.Written.{Written}
+use Rattle.code_record.specs.Record.{longestInput, codeOf, emptyCode}
+use Rattle.code_record.specs.Record.{between, withinLimits, logicalCount, radius, claimAt, Sized}
+use Rattle.code_record.specs.Refusals.{values}
 use Rattle.sheet.specs.Edges.{sheetA}
 use Rattle.sheet.specs.Definitions.{definitions}
 use Rattle.sheet.specs.Reader.{Parsed, SheetRead, got, stop, readForm, linesReading, formReading}
-use Rattle.sheet.specs.Record.{generatorRoom, logicalRoom, longestInput, longestSheet, codeOf, emptyCode, filled}
-use Rattle.sheet.specs.Record.{between, withinLimits, logicalCount, radius, claimAt}
-use Rattle.sheet.specs.Refusals.{values}
+use Rattle.sheet.specs.Statements.{longestSheet}
 use Rattle.sheet.specs.Text.{decimal, lineFeed, untouched}
-use Rattle.sheet.specs.Statements.{Sized}
 use Rattle.sheet.specs.Writer.{sheetText, writeSheet}
-
--- ---- the numbers
-
--- Each case at line 8, in the order in which they stand.
-cases : List Refusal
-cases =
-    Refusal.TooLong ∷ Refusal.Form 8 ∷ Refusal.QubitCount 8 ∷ Refusal.DistanceRange 8 ∷ Refusal.GeneratorCount 8
-    ∷ Refusal.GeneratorsAnticommute 8 Family.Generator ∷ Refusal.MinusIdentity 8 Family.Generator
-    ∷ Refusal.DependentGenerator 8 Family.Generator ∷ Refusal.LogicalAnticommutes 8 Family.LogicalX
-    ∷ Refusal.LogicalPairing 8 Family.LogicalZ ∷ Refusal.ClaimedWeight 8 ∷ Refusal.ClaimedAnticommutes 8
-    ∷ Refusal.ClaimedInGroup 8 ∷ Refusal.DistanceRefuted 8 (record { n = 0; e = identity; f = identity })
-    ∷ Refusal.RecordLimits ∷ Refusal.Syndrome 8 ∷ Refusal.ShortBuffer ∷ []
-
-numbers :
-    map (λ refusal. values refusal .number) cases
-    ≡ 1 ∷ 2 ∷ 3 ∷ 4 ∷ 5 ∷ 6 ∷ 7 ∷ 8 ∷ 9 ∷ 10 ∷ 11 ∷ 12 ∷ 13 ∷ 14 ∷ 15 ∷ 16 ∷ 17 ∷ []
-unfolding cases definitions
-numbers = refl
-
--- 1, 15 and 17 name no line.
-lines-named :
-    map (λ refusal. values refusal .line) cases
-    ≡ 0 ∷ 8 ∷ 8 ∷ 8 ∷ 8 ∷ 8 ∷ 8 ∷ 8 ∷ 8 ∷ 8 ∷ 8 ∷ 8 ∷ 8 ∷ 8 ∷ 0 ∷ 8 ∷ 0 ∷ []
-unfolding cases definitions
-lines-named = refl
 
 -- ---- numbers in texts
 
@@ -175,78 +147,10 @@ numbers-24 : (logicalCount code24 ≡ 23) × (radius code24 ≡ 3) × (claimAt c
 unfolding code24 definitions
 numbers-24 = (refl, refl, refl)
 
--- The empty record has 0 for each number.
-empty-numbers : (emptyCode .n ≡ 0) × (emptyCode .r ≡ 0) × (emptyCode .d ≡ 0)
-unfolding definitions
-empty-numbers = (refl, refl, refl)
-
 -- The arrays have their room, in a record that was read and in the empty one.
 rooms : Sized codeA × Sized emptyCode
 unfolding codeA definitions
 rooms = (record { roomG = refl; roomX = refl; roomZ = refl }, record { roomG = refl; roomX = refl; roomZ = refl })
-
--- ---- the limits of a record
-
-zz : Pauli
-zz = ofLetters (Z ∷ Z ∷ [])
-
-xx : Pauli
-xx = ofLetters (X ∷ X ∷ [])
-
-zi : Pauli
-zi = ofLetters (Z ∷ I ∷ [])
-
--- On two qubits: a bit above the second, in either mask; and a phase that no signed row has.
-above-a : Pauli
-above-a = record { p = 0; a = 4; b = 0 }
-
-above-b : Pauli
-above-b = record { p = 0; a = 0; b = 4 }
-
-turned : Pauli
-turned = record { p = 1; a = 3; b = 0 }
-
--- The record of K, with some of its values changed.
-codeK : (n d : ℕ) → (g x z w : Pauli) → Code
-codeK n d g x z w = codeOf n d (g ∷ []) (x ∷ []) (z ∷ []) w
-
--- t, for each d
-radii : map (λ d. radius (codeK 2 d zz xx zi zi)) (1 ∷ 2 ∷ 3 ∷ 4 ∷ 5 ∷ 6 ∷ 7 ∷ []) ≡ 0 ∷ 0 ∷ 1 ∷ 1 ∷ 2 ∷ 2 ∷ 3 ∷ []
-unfolding codeK definitions
-radii = refl
-
-inside : List Code
-inside =
-    codeK 2 1 zz xx zi zi ∷ codeK 2 7 zz xx zi zi ∷ codeK 24 1 zz xx zi zi
-    ∷ codeK 2 1 (signedRow Minus (Z ∷ Z ∷ [])) xx (record { p = 4; a = 0; b = 1 }) (record { p = 8; a = 0; b = 1 }) ∷ []
-
-outside : List Code
-outside =
-    codeK 25 1 zz xx zi zi ∷ codeK 1 1 identity identity identity identity
-    ∷ codeK 2 0 zz xx zi zi ∷ codeK 2 8 zz xx zi zi
-    -- r is 0, and n
-    ∷ codeOf 2 1 [] (xx ∷ []) (zi ∷ []) zi ∷ codeOf 2 1 (zz ∷ xx ∷ []) [] [] zi
-    ∷ codeK 2 1 above-a xx zi zi ∷ codeK 2 1 above-b xx zi zi ∷ codeK 2 1 zz above-a zi zi ∷ codeK 2 1 zz xx above-b zi
-    ∷ codeK 2 1 zz xx zi above-a ∷ codeK 2 1 zz xx zi above-b
-    ∷ codeK 2 1 turned xx zi zi ∷ codeK 2 1 zz turned zi zi ∷ codeK 2 1 zz xx turned zi
-    -- w has sign -
-    ∷ codeK 2 1 zz xx zi (signedRow Minus (Z ∷ I ∷ []))
-    -- an unused row is not I: of x, of z, of g
-    ∷ codeOf 2 1 (zz ∷ []) (xx ∷ xx ∷ []) (zi ∷ []) zi ∷ codeOf 2 1 (zz ∷ []) (xx ∷ []) (zi ∷ zi ∷ []) zi
-    ∷ record {
-      n = 2;
-      r = 1;
-      d = 1;
-      g = filled generatorRoom (zz ∷ zz ∷ []);
-      x = filled logicalRoom (xx ∷ []);
-      z = filled logicalRoom (zi ∷ []);
-      w = zi;
-    }
-    ∷ emptyCode ∷ []
-
-limits : (allOf withinLimits inside ≡ true) × (anyOf withinLimits outside ≡ false)
-unfolding inside outside codeK zz xx zi above-a above-b turned definitions
-limits = (refl, refl)
 
 -- ---- the writer's call
 

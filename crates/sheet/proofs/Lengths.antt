@@ -18,13 +18,13 @@ use Rattle.pauli.specs.declared.Pauli.{Pauli}
 use Rattle.pauli.specs.Letters.{letterText, rowText}
 use Rattle.pauli.specs.Lists.{bytes}
 use Rattle.pauli.proofs.Letters.{length-lettersOf}
-use Rattle.sheet.specs.declared.Code.{Code}
-use Rattle.sheet.specs.Record.{mostQubits, longestSheet, pairCount, logicalCount, withinLimits}
-use Rattle.sheet.specs.Record.{generators, logicalXs, logicalZs}
-use Rattle.sheet.specs.Statements.{Sized}
+use Rattle.code_record.specs.declared.Code.{Code}
+use Rattle.code_record.specs.Record.{mostQubits, pairCount, logicalCount, withinLimits}
+use Rattle.code_record.specs.Record.{generators, logicalXs, logicalZs, Sized}
+use Rattle.code_record.proofs.Limits.{Limits, limits}
+use Rattle.sheet.specs.Statements.{longestSheet}
 use Rattle.sheet.specs.Text.{line, digitsOf, decimal}
 use Rattle.sheet.specs.Writer.{rowLines, sheetText}
-use Rattle.sheet.proofs.Limits.{Limits, limits}
 
 -- ---- numbers
 

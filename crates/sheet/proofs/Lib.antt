@@ -1,15 +1,11 @@
 pub mod Examples
-pub mod Limits
-pub mod Filled
 pub mod Lengths
 pub mod Values
 pub mod Outcome
 pub mod Line
 pub mod Consumed
 pub mod ReadBack
-pub mod RowLimits
 pub mod Parts
-pub mod ArrayLengths
 pub mod WrittenRead
 pub mod Longest
 pub mod Numbers

@@ -4,9 +4,9 @@ use mathlib.Core.List.{List, [], append-nil}
 use mathlib.Core.Path.{_≡_, refl}
 use Prim.Native.Nat.{ℕ, _≤_}
 use lib.ListN.{length}
+use Rattle.code_record.specs.Record.{codeOf}
 use Rattle.sheet.specs.Reader.{SheetRead, got, readForm}
-use Rattle.sheet.specs.Record.{longestSheet, codeOf}
-use Rattle.sheet.specs.Statements.{LongestSheet}
+use Rattle.sheet.specs.Statements.{longestSheet, LongestSheet}
 use Rattle.sheet.specs.Writer.{sheetText}
 use Rattle.sheet.proofs.Examples.{code24, longest, longest-returns}
 use Rattle.sheet.proofs.Lengths.{sheetText-le}

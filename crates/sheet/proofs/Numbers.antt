@@ -8,12 +8,12 @@ use mathlib.Core.Path.{_≡_, refl}
 use Prim.Native.Nat.{ℕ}
 use lib.ListN.{length}
 use Rattle.pauli.specs.Lists.{anyOf}
-use Rattle.sheet.specs.declared.Code.{Code}
-use Rattle.sheet.specs.declared.Refusal.{Refusal}
-use Rattle.sheet.specs.declared.Written.{Written}
+use Rattle.code_record.specs.declared.Code.{Code}
+use Rattle.code_record.specs.declared.Refusal.{Refusal}
+use Rattle.code_record.specs.declared.Written.{Written}
+use Rattle.code_record.specs.Record.{limitsFault}
+use Rattle.code_record.specs.Refusals.{linesRefusal, writtenRefusal, refuseIf, _then_}
 use Rattle.sheet.specs.Reader.{Parsed, SheetRead, answered, linesReading, formReading}
-use Rattle.sheet.specs.Record.{limitsFault}
-use Rattle.sheet.specs.Refusals.{linesRefusal, writtenRefusal, refuseIf, _then_}
 use Rattle.sheet.specs.Statements.{SheetRefusalNumbers}
 use Rattle.sheet.specs.Text.{After, untouched, guarded, roomFault, written}
 use Rattle.sheet.specs.Writer.{sheetText, writeSheet}

@@ -10,18 +10,18 @@ use lib.ListN.{length, drop, length-append}
 use lib.Seq.{drop-append-seam}
 use Rattle.pauli.specs.declared.Pauli.{Pauli}
 use Rattle.pauli.specs.Lists.{anyOf}
+use Rattle.code_record.specs.Record.{generatorRoom, logicalRoom, mostQubits, mostDistance, longestInput}
+use Rattle.code_record.specs.Record.{pairCount, mostGenerators, logicalCount, generators, logicalXs, logicalZs}
+use Rattle.code_record.specs.Record.{firstGeneratorAt, generatorsAt, logicalsAt, claimAt, codeOf, withinLimits}
+use Rattle.code_record.proofs.Filled.{length-filled, take-filled, filled-are-rows, filled-modulo4}
+use Rattle.code_record.proofs.Limits.{bounds-between}
 use Rattle.sheet.specs.Reader.{SheetRead, got, done, linesAfter, sheetLines, readLines, nothingBehind, readForm}
 use Rattle.sheet.specs.Reader.{answered, linesReading, behind}
-use Rattle.sheet.specs.Record.{generatorRoom, logicalRoom, mostQubits, mostDistance, longestInput}
-use Rattle.sheet.specs.Record.{pairCount, mostGenerators, logicalCount, generators, logicalXs, logicalZs}
-use Rattle.sheet.specs.Record.{firstGeneratorAt, generatorsAt, logicalsAt, claimAt, codeOf, withinLimits}
 use Rattle.sheet.specs.Statements.{phasesModulo4, ReadIsLawful, ReadsAreLawful, WriteAfterRead, RestIsBehind}
 use Rattle.sheet.specs.Writer.{sheetText}
 use Rattle.sheet.proofs.Consumed.{OfForm, form-refusal, NumberLine, RowLines, ClaimLine, row-count}
 use Rattle.sheet.proofs.Consumed.{qubit-line-outcome, distance-line-outcome, generator-lines-outcome}
 use Rattle.sheet.proofs.Consumed.{logical-lines-outcome, claim-line-outcome}
-use Rattle.sheet.proofs.Filled.{length-filled, take-filled, filled-are-rows, filled-modulo4}
-use Rattle.sheet.proofs.Limits.{bounds-between}
 use Rattle.sheet.proofs.Outcome.{Outcome, gets, stops, what-was-got, continue-outcome, cond-outcome, Took}
 
 -- ---- the record of the values

@@ -25,11 +25,11 @@ use Rattle.pauli.specs.Lists.{firstOf, readByte}
 use Rattle.pauli.specs.Product.{modulo4}
 use Rattle.pauli.proofs.Letters.{letters-return, xMask-lt, zMask-lt}
 use Rattle.pauli.proofs.Rows.{row-has-sign, row-returns, sign-returns, signed-row-is-signed}
+use Rattle.code_record.specs.Record.{between, onQubits, isRow, isClaim}
+use Rattle.code_record.proofs.Limits.{both, between-bounds, bounds-between, on-qubits}
 use Rattle.sheet.specs.Reader.{readEach, readDigit, numberOf, readNumber, readLetters, readRow}
-use Rattle.sheet.specs.Record.{between, onQubits, isRow, isClaim}
 use Rattle.sheet.specs.Text.{decimal}
 use Rattle.sheet.proofs.Lengths.{decimal-one, decimal-snoc, by-digits}
-use Rattle.sheet.proofs.Limits.{both, between-bounds, bounds-between, on-qubits}
 
 -- ---- bytes
 

@@ -13,22 +13,22 @@ use Rattle.pauli.specs.declared.Pauli.{Pauli}
 use Rattle.pauli.specs.Letters.{letterText, rowText}
 use Rattle.pauli.specs.Lists.{allOf, bytes}
 use Rattle.pauli.specs.Product.{modulo4}
-use Rattle.sheet.specs.declared.Code.{Code}
-use Rattle.sheet.specs.declared.Refusal.{Refusal}
+use Rattle.code_record.specs.declared.Code.{Code}
+use Rattle.code_record.specs.declared.Refusal.{Refusal}
+use Rattle.code_record.specs.Record.{generatorRoom, logicalRoom, mostQubits, mostDistance, longestInput}
+use Rattle.code_record.specs.Record.{mostGenerators, pairCount, logicalCount, generatorsAt, logicalsAt, claimAt}
+use Rattle.code_record.specs.Record.{firstGeneratorAt, codeOf, generators, logicalXs, logicalZs, isRow, isClaim, Sized}
+use Rattle.code_record.proofs.Filled.{filled-returns}
+use Rattle.code_record.proofs.Limits.{Limits, limits, all-cons, bounds-between}
 use Rattle.sheet.specs.Reader.{got, done, continue, begins, readNumber, readLetters, readRow, inRange}
 use Rattle.sheet.specs.Reader.{qubitDigits, qubitLine, distanceLine, rowLine, rowsUpTo, countedGenerators}
 use Rattle.sheet.specs.Reader.{generatorLines, countedLogicals, logicalLines, claimLine, linesAfter}
 use Rattle.sheet.specs.Reader.{sheetLines, readLines}
-use Rattle.sheet.specs.Record.{generatorRoom, logicalRoom, mostQubits, mostDistance, longestInput}
-use Rattle.sheet.specs.Record.{mostGenerators, pairCount, logicalCount, generatorsAt, logicalsAt, claimAt}
-use Rattle.sheet.specs.Record.{firstGeneratorAt, codeOf, generators, logicalXs, logicalZs, isRow, isClaim}
-use Rattle.sheet.specs.Statements.{Sized, phasesModulo4, ReadAfterWrite}
+use Rattle.sheet.specs.Statements.{phasesModulo4, ReadAfterWrite}
 use Rattle.sheet.specs.Text.{lineFeed, line, decimal}
 use Rattle.sheet.specs.Writer.{sheetText, rowLines}
-use Rattle.sheet.proofs.Filled.{filled-returns}
 use Rattle.sheet.proofs.Lengths.{by-digits, length-decimal-one, length-letterText, length-rowText}
 use Rattle.sheet.proofs.Lengths.{length-generators, length-logicalXs, length-logicalZs}
-use Rattle.sheet.proofs.Limits.{Limits, limits, all-cons, bounds-between}
 use Rattle.sheet.proofs.Line.{line-begins, line-returns}
 use Rattle.sheet.proofs.Values.{number-read, row-read, claim-read}
 

@@ -7,11 +7,11 @@ use mathlib.Core.Path.{_≡_, ap}
 use Prim.Native.Nat.{ℕ, _≤_, _<_}
 use borrow.Author.Tests.{lt-ltb, le-ltb}
 use lib.ListN.{length}
-use Rattle.sheet.specs.declared.Code.{Code}
-use Rattle.sheet.specs.declared.Refusal.{Refusal}
-use Rattle.sheet.specs.declared.Written.{Written}
-use Rattle.sheet.specs.Record.{withinLimits, limitsFault}
-use Rattle.sheet.specs.Refusals.{refuseIf, _then_}
+use Rattle.code_record.specs.declared.Code.{Code}
+use Rattle.code_record.specs.declared.Refusal.{Refusal}
+use Rattle.code_record.specs.declared.Written.{Written}
+use Rattle.code_record.specs.Record.{withinLimits, limitsFault}
+use Rattle.code_record.specs.Refusals.{refuseIf, _then_}
 use Rattle.sheet.specs.Text.{laid, untouched, guarded, roomFault, written}
 
 -- ---- one check

@@ -1,11 +1,7 @@
 -- Every definition of this layer and of those below it that computes, to be unfolded at once where an example is
 -- computed: a proof that says `unfolding definitions` unfolds all that is named below.
-use Rattle.pauli.specs.Definitions.{definitions as definitions-pauli}
+use Rattle.code_record.specs.Definitions.{definitions as definitions-record}
 use mathlib.Core.Option.{bind}
-use Rattle.sheet.specs.Refusals.{linesRefusal, writtenRefusal, refuseIf, _then_}
-use Rattle.sheet.specs.Record.{pairCount, mostGenerators, logicalCount, radius, generators, logicalXs, logicalZs}
-use Rattle.sheet.specs.Record.{generatorsAt, logicalsAt, claimAt, filled, codeOf, emptyCode}
-use Rattle.sheet.specs.Record.{between, onQubits, isRow, isClaim, areRows, withinLimits, limitsFault}
 use Rattle.sheet.specs.Text.{lineFeed, line, digitsOf, decimal, laid, untouched, guarded, roomFault, written}
 use Rattle.sheet.specs.Reader.{done, continue, begins, readEach, gotOr, isLine, lineOf, readDigit, numberOf}
 use Rattle.sheet.specs.Reader.{readNumber, readLetters, readRow, inRange, qubitDigits, qubitLine, distanceLine}
@@ -18,14 +14,11 @@ use Rattle.sheet.specs.Edges.{sheetJ, sheetK, sheetL, nineQubits, eightQ
 use Rattle.sheet.specs.Starred.{syndromesA, reportA, reportL, refusalC, starred}
 
 unfoldable pub definitions : Unit {0}
-unfolding linesRefusal writtenRefusal refuseIf _then_
-    pairCount mostGenerators logicalCount radius generators logicalXs logicalZs generatorsAt logicalsAt claimAt
-    filled codeOf emptyCode between onQubits isRow isClaim areRows withinLimits limitsFault
-    lineFeed line digitsOf decimal laid untouched guarded roomFault written
+unfolding lineFeed line digitsOf decimal laid untouched guarded roomFault written
     done continue begins readEach gotOr isLine lineOf readDigit numberOf readNumber readLetters readRow inRange
     qubitDigits qubitLine distanceLine rowLine rowsUpTo countedGenerators generatorLines countedLogicals
     logicalLines claimLine linesAfter sheetLines readLines nothingBehind readForm
     answered linesReading formReading behind rowLines sheetText writeSheet
     fiveQubits sheetA sheetB sheetC sheetD sheetE sheetF sheetG sheetH sheetI sheetJ sheetK sheetL
-    nineQubits eightQubits fourQubits syndromesA reportA reportL refusalC starred bind definitions-pauli
+    nineQubits eightQubits fourQubits syndromesA reportA reportL refusalC starred bind definitions-record
 definitions = tt

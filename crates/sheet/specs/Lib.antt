@@ -1,5 +1,3 @@
-pub mod Refusals
-pub mod Record
 pub mod Text
 pub mod Reader
 pub mod Writer

@@ -12,13 +12,13 @@ use lib.ListN.{length, take, drop, getD}
 use Rattle.pauli.specs.declared.Pauli.{Pauli}
 use Rattle.pauli.specs.Lists.{bytes}
 use Rattle.pauli.specs.Letters.{readSign, readLetter, signedRow, ofLetters}
-use Rattle.sheet.specs.declared.Code.{Code}
-use Rattle.sheet.specs.declared.Refusal.{Refusal}
-use Rattle.sheet.specs.declared.Lines.{Lines}
-use Rattle.sheet.specs.declared.LinesReading.{LinesReading}
+use Rattle.code_record.specs.declared.Code.{Code}
+use Rattle.code_record.specs.declared.Refusal.{Refusal}
+use Rattle.code_record.specs.declared.Lines.{Lines}
+use Rattle.code_record.specs.declared.LinesReading.{LinesReading}
+use Rattle.code_record.specs.Record.{between, codeOf, emptyCode, pairCount, mostGenerators, firstGeneratorAt}
+use Rattle.code_record.specs.Record.{mostQubits, mostDistance, longestInput}
 use Rattle.sheet.specs.Text.{lineFeed}
-use Rattle.sheet.specs.Record.{between, codeOf, emptyCode, pairCount, mostGenerators, firstGeneratorAt}
-use Rattle.sheet.specs.Record.{mostQubits, mostDistance, longestInput}
 
 -- What a reader gives: a value and the rest of the bytes, or the refusal that ends the reading.
 pub data Parsed (A : Type 0) : Type 0 where

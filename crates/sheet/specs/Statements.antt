@@ -8,20 +8,14 @@ use lib.Dec.{eqb}
 use lib.ListN.{length}
 use Rattle.pauli.specs.Lists.{anyOf}
 use Rattle.pauli.specs.Product.{modulo4}
-use Rattle.sheet.specs.declared.Code.{Code}
-use Rattle.sheet.specs.declared.Refusal.{Refusal}
+use Rattle.code_record.specs.declared.Code.{Code}
+use Rattle.code_record.specs.declared.Refusal.{Refusal}
+use Rattle.code_record.specs.Record.{mostQubits, longestInput, Sized}
+use Rattle.code_record.specs.Record.{withinLimits, claimAt}
+use Rattle.code_record.specs.Refusals.{values, linesRefusal, writtenRefusal}
 use Rattle.sheet.specs.Reader.{SheetRead, got, readForm, readLines, linesReading, formReading, behind}
-use Rattle.sheet.specs.Record.{generatorRoom, logicalRoom, mostQubits, longestInput, longestSheet}
-use Rattle.sheet.specs.Record.{withinLimits, claimAt}
-use Rattle.sheet.specs.Refusals.{values, linesRefusal, writtenRefusal}
 use Rattle.sheet.specs.Text.{After}
 use Rattle.sheet.specs.Writer.{sheetText, writeSheet}
-
--- A record as a machine holds it: each array has its room.
-pub record Sized (c : Code) : Type 0 where
-  pub roomG : length (c .g) ≡ generatorRoom
-  pub roomX : length (c .x) ≡ logicalRoom
-  pub roomZ : length (c .z) ≡ logicalRoom
 
 -- RULES, "Paulis": a phase counts modulo 4. A record with its phases brought to 0 to 3.
 unfoldable pub phasesModulo4 : Code → Code
@@ -62,6 +56,10 @@ pub record ReadIsLawful (q : SheetRead) : Type 0 where
 
 abbrev pub ReadsAreLawful : Type 0
 ReadsAreLawful = (s : List ℕ) (q : SheetRead) (rest : List ℕ) → readLines s ≡ got q rest → ReadIsLawful q
+
+-- RULES, "The sheet": how many bytes a sheet has at most.
+abbrev pub longestSheet : ℕ
+longestSheet = 1352
 
 -- RULES, "The sheet": how long a sheet is at most; one of 24 qubits and one generator is so long.
 pub record LongestSheet : Type 0 where

@@ -4,10 +4,10 @@ use Prim.Native.Nat.{ℕ}
 use Prim.Native.String.{String}
 use Rattle.pauli.specs.declared.Pauli.{Pauli}
 use Rattle.pauli.specs.Letters.{letterText, rowText}
-use Rattle.sheet.specs.declared.Code.{Code}
-use Rattle.sheet.specs.declared.Written.{Written}
+use Rattle.code_record.specs.declared.Code.{Code}
+use Rattle.code_record.specs.declared.Written.{Written}
+use Rattle.code_record.specs.Record.{generators, logicalXs, logicalZs, limitsFault}
 use Rattle.sheet.specs.Text.{line, decimal, After, written}
-use Rattle.sheet.specs.Record.{generators, logicalXs, logicalZs, limitsFault}
 
 unfoldable pub rowLines : String → ℕ → List Pauli → List ℕ
 rowLines key n rows = flatMap (λ P. line key (rowText n P)) rows

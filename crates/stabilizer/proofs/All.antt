@@ -8,7 +8,7 @@ use Prim.Native.Nat.{ℕ, zero, suc, _<_}
 use native.Mathlib.Omega.{arith}
 use lib.ListN.{length, getD}
 use Rattle.pauli.specs.Lists.{allOf, anyOf}
-use Rattle.sheet.proofs.Limits.{all-first, all-cons}
+use Rattle.code_record.proofs.Limits.{all-first, all-cons}
 use Rattle.stabilizer.proofs.Tests.{neither, any-cons}
 
 module _ {A : Type 0} where

@@ -20,8 +20,8 @@ use Rattle.pauli.specs.declared.Pauli.{Pauli}
 use Rattle.pauli.specs.Masks.{bits}
 use Rattle.pauli.specs.Product.{identity, product, sameMasks}
 use Rattle.pauli.proofs.Masks.{digit, bits-determine}
-use Rattle.sheet.specs.Record.{onQubits}
-use Rattle.sheet.proofs.Limits.{on-qubits}
+use Rattle.code_record.specs.Record.{onQubits}
+use Rattle.code_record.proofs.Limits.{on-qubits}
 use Rattle.stabilizer.specs.Canonical.{columns, column, firstOne, pivot}
 
 -- ---- the first one of a list

@@ -13,7 +13,7 @@ use lib.Dec.{eqb, ltb}
 use lib.ListN.{length, getD, length-map}
 use Rattle.pauli.specs.declared.Pauli.{Pauli}
 use Rattle.pauli.specs.Product.{identity, product, modulo4, sameMasks}
-use Rattle.sheet.specs.Record.{onQubits}
+use Rattle.code_record.specs.Record.{onQubits}
 use Rattle.stabilizer.specs.Group.{productOf}
 use Rattle.stabilizer.specs.Canonical.{columns, column, pivot, ReducedEchelon, cleared, reduced, insertByPivot}
 use Rattle.stabilizer.specs.Canonical.{added}

@@ -11,13 +11,13 @@ use Rattle.pauli.specs.declared.Letter.the-variants.{I, Z}
 use Rattle.pauli.specs.declared.Sign.the-variants.{Plus, Minus}
 use Rattle.pauli.specs.Letters.{ofLetters}
 use Rattle.pauli.specs.Lists.{bytes}
-use Rattle.sheet.specs.declared.Code.{Code}
-use Rattle.sheet.specs.declared.Family.{Family}
-use Rattle.sheet.specs.declared.Refusal.{Refusal}
-use Rattle.sheet.specs.declared.Written.{Written}
+use Rattle.code_record.specs.declared.Code.{Code}
+use Rattle.code_record.specs.declared.Family.{Family}
+use Rattle.code_record.specs.declared.Refusal.{Refusal}
+use Rattle.code_record.specs.declared.Written.{Written}
+use Rattle.code_record.specs.Record.{codeOf, generators, firstGeneratorAt}
 use Rattle.sheet.specs.Edges.{eightQubits, sheetA}
 use Rattle.sheet.specs.Reader.{readRow, linesReading}
-use Rattle.sheet.specs.Record.{codeOf, generators, firstGeneratorAt}
 use Rattle.sheet.specs.Text.{untouched}
 use Rattle.stabilizer.specs.Canonical.{reducesToIdentity, canonicalGenerators, writeCanonical}
 use Rattle.stabilizer.specs.Checks.{minusIdentity, dependence, generatorFault, groupFault}

@@ -11,7 +11,7 @@ use lib.ListN.{length, length-append}
 use Rattle.pauli.specs.declared.Pauli.{Pauli}
 use Rattle.pauli.specs.Product.{identity, product, modulo4, sameMasks}
 use Rattle.pauli.proofs.Product.{product-assoc}
-use Rattle.sheet.specs.Record.{isRow}
+use Rattle.code_record.specs.Record.{isRow}
 use Rattle.stabilizer.specs.Canonical.{reduced, reducesToIdentity, added, canonicalGenerators}
 use Rattle.stabilizer.specs.Checks.{minusIdentity}
 use Rattle.stabilizer.specs.Group.{productOf}

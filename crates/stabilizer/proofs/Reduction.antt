@@ -9,7 +9,7 @@ use Prim.Native.Nat.{ℕ}
 use Rattle.pauli.specs.declared.Pauli.{Pauli}
 use Rattle.pauli.specs.Product.{identity, product, modulo4, sameMasks}
 use Rattle.pauli.proofs.Product.{pauli, product-assoc, product-identity-l}
-use Rattle.sheet.specs.Record.{onQubits}
+use Rattle.code_record.specs.Record.{onQubits}
 use Rattle.stabilizer.specs.Canonical.{column, pivot, cleared, reduced, reducesToIdentity, insertByPivot, added}
 use Rattle.stabilizer.specs.Canonical.{canonicalGenerators}
 use Rattle.stabilizer.specs.Group.{productOf}

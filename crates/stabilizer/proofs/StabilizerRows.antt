@@ -17,8 +17,8 @@ use Rattle.pauli.specs.Letters.{signedRow, lettersOf, hasSign, isSignedRow, sig
 use Rattle.pauli.specs.Definitions.{definitions}
 use Rattle.pauli.specs.Product.{identity, product, modulo4, hasPhase, sameMasks}
 use Rattle.pauli.proofs.Rows.{row-returns, rows-product}
-use Rattle.sheet.specs.Record.{onQubits, isRow}
-use Rattle.sheet.proofs.Limits.{both}
+use Rattle.code_record.specs.Record.{onQubits, isRow}
+use Rattle.code_record.proofs.Limits.{both}
 use Rattle.stabilizer.specs.Canonical.{reduced, added, canonicalGenerators}
 use Rattle.stabilizer.specs.Checks.{minusIdentity}
 use Rattle.stabilizer.proofs.All.{All, all-map, all-zip, all-append, from-last}

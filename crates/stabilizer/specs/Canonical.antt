@@ -11,9 +11,9 @@ use Rattle.pauli.specs.declared.Pauli.{Pauli}
 use Rattle.pauli.specs.Lists.{allOf}
 use Rattle.pauli.specs.Masks.{bits}
 use Rattle.pauli.specs.Product.{identity, product, modulo4, sameMasks}
-use Rattle.sheet.specs.declared.Code.{Code}
-use Rattle.sheet.specs.declared.Written.{Written}
-use Rattle.sheet.specs.Record.{generators, isRow}
+use Rattle.code_record.specs.declared.Code.{Code}
+use Rattle.code_record.specs.declared.Written.{Written}
+use Rattle.code_record.specs.Record.{generators, isRow}
 use Rattle.sheet.specs.Text.{After, written}
 use Rattle.sheet.specs.Writer.{rowLines}
 use Rattle.stabilizer.specs.Group.{InGroup}

@@ -5,13 +5,13 @@
 // mask.
 use crate::written::Writer;
 use crate::written::write_thrice;
+use code_record::Code;
+use code_record::Family;
+use code_record::pair_count;
 use elimination::Checked;
 use elimination::Membership;
 use elimination::ReducedRows;
 use pauli::Pauli;
-use sheet::Code;
-use sheet::Family;
-use sheet::pair_count;
 use test_cases::above;
 use test_cases::changed;
 use test_cases::print;

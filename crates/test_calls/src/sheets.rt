@@ -4,11 +4,11 @@
 // about as long as the lines.
 use crate::written::Writer;
 use crate::written::write_thrice;
+use code_record::Code;
+use code_record::Family;
+use code_record::Lines;
+use code_record::LinesReading;
 use pauli::Pauli;
-use sheet::Code;
-use sheet::Family;
-use sheet::Lines;
-use sheet::LinesReading;
 use test_cases::changed;
 use test_cases::one_less;
 use test_cases::print;

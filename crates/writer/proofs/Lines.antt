@@ -15,15 +15,15 @@ use Rattle.pauli.specs.declared.Pauli.{Pauli}
 use Rattle.pauli.specs.Letters.{letterByte, letterText, letterOn, lettersOf, rowText, signByte, signOf}
 use Rattle.pauli.specs.Lists.{bytes}
 use Rattle.pauli.proofs.Letters.{letters-at}
-use Rattle.sheet.specs.declared.Family.{Family}
-use Rattle.sheet.specs.declared.Family.the-variants.{Generator, LogicalX, LogicalZ}
-use Rattle.sheet.specs.declared.Refusal.{Refusal}
-use Rattle.sheet.specs.declared.Written.{Written}
-use Rattle.sheet.specs.Record.{mostQubits, between, keyByte, rowKey}
-use Rattle.sheet.specs.Refusals.{refuseIf}
+use Rattle.code_record.specs.declared.Family.{Family}
+use Rattle.code_record.specs.declared.Family.the-variants.{Generator, LogicalX, LogicalZ}
+use Rattle.code_record.specs.declared.Refusal.{Refusal}
+use Rattle.code_record.specs.declared.Written.{Written}
+use Rattle.code_record.specs.Record.{mostQubits, between, keyByte, rowKey}
+use Rattle.code_record.specs.Refusals.{refuseIf}
+use Rattle.code_record.proofs.Limits.{bounds-between, outside-between}
 use Rattle.sheet.specs.Text.{laid, line, lineFeed, untouched}
 use Rattle.sheet.proofs.Lengths.{length-letterText, length-line, length-rowText}
-use Rattle.sheet.proofs.Limits.{bounds-between, outside-between}
 use Rattle.sheet.proofs.WrittenText.{refuseIf-true, refuseIf-false, written-fault, written-short, written-whole}
 use Rattle.writer.specs.Lines.{rowLineText, writeRow, claimText}
 use Rattle.writer.proofs.Laid.{length-taken, byte-laid, sets-laid, set-laid, lent, back, length-back, back-laid}

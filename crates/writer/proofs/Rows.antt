@@ -12,9 +12,9 @@ use Rattle.pauli.specs.declared.Pauli.{Pauli}
 use Rattle.pauli.specs.Letters.{rowText}
 use Rattle.pauli.specs.Lists.{bytes}
 use Rattle.pauli.specs.Product.{identity}
-use Rattle.sheet.specs.declared.Code.{Code}
-use Rattle.sheet.specs.declared.Family.{Family}
-use Rattle.sheet.specs.Record.{keyByte, rowKey, rowsOf}
+use Rattle.code_record.specs.declared.Code.{Code}
+use Rattle.code_record.specs.declared.Family.{Family}
+use Rattle.code_record.specs.Record.{keyByte, rowKey, rowsOf}
 use Rattle.sheet.specs.Text.{line}
 use Rattle.sheet.specs.Writer.{rowLines}
 use Rattle.sheet.proofs.Lengths.{length-rowLines}

@@ -6,17 +6,16 @@ use Prim.Native.Nat.{ℕ, _+_, _*_, _≤_, _<_}
 use native.Mathlib.Omega.{arith}
 use lib.ListN.{length, length-append}
 use Rattle.pauli.specs.Lists.{bytes}
-use Rattle.sheet.specs.declared.Code.{Code}
-use Rattle.sheet.specs.declared.Family.the-variants.{Generator, LogicalX, LogicalZ}
-use Rattle.sheet.specs.declared.Refusal.{Refusal}
-use Rattle.sheet.specs.declared.Written.{Written}
-use Rattle.sheet.specs.Record.{pairCount, logicalCount, generators, logicalXs, logicalZs, withinLimits}
-use Rattle.sheet.specs.Statements.{Sized}
+use Rattle.code_record.specs.declared.Code.{Code}
+use Rattle.code_record.specs.declared.Family.the-variants.{Generator, LogicalX, LogicalZ}
+use Rattle.code_record.specs.declared.Refusal.{Refusal}
+use Rattle.code_record.specs.declared.Written.{Written}
+use Rattle.code_record.specs.Record.{pairCount, logicalCount, generators, logicalXs, logicalZs, withinLimits, Sized}
+use Rattle.code_record.proofs.Limits.{limits}
 use Rattle.sheet.specs.Text.{line, lineFeed, decimal, laid, untouched}
 use Rattle.sheet.specs.Writer.{sheetText, writeSheet}
 use Rattle.sheet.proofs.Lengths.{length-line, length-letterText, length-rowLines}
 use Rattle.sheet.proofs.Lengths.{length-generators, length-logicalXs, length-logicalZs}
-use Rattle.sheet.proofs.Limits.{limits}
 use Rattle.sheet.proofs.WrittenText.{limits-broken, limits-kept, written-fault, written-short, written-whole}
 use Rattle.writer.specs.Lines.{numberText, familyText, claimText}
 

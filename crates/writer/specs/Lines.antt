@@ -8,12 +8,12 @@ use Prim.Native.Char.{code}
 use lib.ListN.{take}
 use Rattle.pauli.specs.declared.Pauli.{Pauli}
 use Rattle.pauli.specs.Letters.{letterText, rowText}
-use Rattle.sheet.specs.declared.Code.{Code}
-use Rattle.sheet.specs.declared.Family.{Family}
-use Rattle.sheet.specs.declared.Refusal.{Refusal}
-use Rattle.sheet.specs.declared.Written.{Written}
-use Rattle.sheet.specs.Record.{mostQubits, between, rowKey, rowsOf}
-use Rattle.sheet.specs.Refusals.{refuseIf}
+use Rattle.code_record.specs.declared.Code.{Code}
+use Rattle.code_record.specs.declared.Family.{Family}
+use Rattle.code_record.specs.declared.Refusal.{Refusal}
+use Rattle.code_record.specs.declared.Written.{Written}
+use Rattle.code_record.specs.Record.{mostQubits, between, rowKey, rowsOf}
+use Rattle.code_record.specs.Refusals.{refuseIf}
 use Rattle.sheet.specs.Text.{line, decimal, lineFeed, After, written}
 use Rattle.sheet.specs.Writer.{rowLines}
 

@@ -8,8 +8,8 @@ use Prim.Native.String.{String}
 use Rattle.pauli.specs.declared.Pauli.{Pauli}
 use Rattle.pauli.specs.Letters.{rowText}
 use Rattle.pauli.specs.Lists.{bytes}
-use Rattle.sheet.specs.declared.Refusal.{Refusal}
-use Rattle.sheet.specs.Refusals.{writtenRefusal}
+use Rattle.code_record.specs.declared.Refusal.{Refusal}
+use Rattle.code_record.specs.Refusals.{writtenRefusal}
 use Rattle.sheet.specs.Statements.{RefusalLeaves, Among}
 use Rattle.sheet.specs.Text.{line, decimal}
 use Rattle.writer.specs.Lines.{numberText, writeNumber, rowLineText, writeRow}

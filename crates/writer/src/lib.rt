@@ -1,16 +1,16 @@
 // The writer of a sheet. Each line has a writer of its own, which is lent the output from the line's first byte onward
 // and answers how many bytes the line has.
+use code_record::Code;
+use code_record::Family;
+use code_record::Refusal;
+use code_record::Written;
 use pauli::Pauli;
-use sheet::Code;
-use sheet::Family;
-use sheet::Refusal;
-use sheet::Written;
 ghost use mathlib.Core.Bool.{true};
 ghost use mathlib.Core.Path.{_≡_};
 ghost use Prim.Native.Nat.{_≤_};
 ghost use lib.ListN.{length};
 ghost use Rattle.pauli.specs.Letters.{letterText};
-ghost use Rattle.sheet.specs.Record.{mostQubits, rowsOf, withinLimits};
+ghost use Rattle.code_record.specs.Record.{mostQubits, rowsOf, withinLimits};
 ghost use Rattle.sheet.specs.Text.{laid, decimal};
 ghost use Rattle.sheet.specs.Writer.{sheetText, writeSheet};
 ghost use Rattle.writer.specs.Lines.{numberText, writeNumber, rowLineText, writeRow, familyText, claimText};
@@ -134,7 +134,7 @@ fn sheet_lines(out: &mut [u8], code: Code) -> usize
 {
     let n = code.n;
     let r = code.r;
-    let k = sheet::pair_count(n, r);
+    let k = code_record::pair_count(n, r);
     let mut end = number_line(out, b"n=", n);
     end += number_line(&mut out[end..], b"d=", code.d);
     end += row_lines(&mut out[end..], code, Family::Generator, r);
@@ -152,7 +152,7 @@ fn sheet_length(code: Code) -> usize
 {
     let n = code.n;
     let r = code.r;
-    let rows = r + 2 * sheet::pair_count(n, r);
+    let rows = r + 2 * code_record::pair_count(n, r);
     digit_count(n) + digit_count(code.d) + 6 + rows * (n + 4) + (n + 3)
 }
 
@@ -182,7 +182,7 @@ pub fn write_row(key: u8, n: usize, row: Pauli, out: &mut [u8]) -> Written
     if n < 2 {
         return Written::Refused(Refusal::RecordLimits);
     }
-    if n > sheet::MOST_QUBITS {
+    if n > code_record::MOST_QUBITS {
         return Written::Refused(Refusal::RecordLimits);
     }
     if out.len() < n + 4 {

@@ -9,7 +9,7 @@ use lib.ListN.{length, take, getD}
 use Rattle.pauli.specs.declared.Pauli.{Pauli}
 use Rattle.pauli.specs.Lists.{bytes}
 use Rattle.pauli.specs.Product.{identity}
-use Rattle.sheet.specs.declared.Written.{Written}
+use Rattle.code_record.specs.declared.Written.{Written}
 use Rattle.sheet.specs.Text.{laid}
 use Rattle.sheet.specs.Writer.{rowLines}
 use Rattle.writer.specs.Lines.{rowLineText}

@@ -6,9 +6,9 @@ use native.Mathlib.Nat.{mul-le-mul}
 use native.Mathlib.Omega.{arith}
 use lib.ListN.{length}
 use borrow.Author.Needs.{needs}
-use Rattle.sheet.specs.declared.Code.{Code}
-use Rattle.sheet.specs.declared.Written.{Written}
-use Rattle.sheet.specs.Record.{mostQubits, generators}
+use Rattle.code_record.specs.declared.Code.{Code}
+use Rattle.code_record.specs.declared.Written.{Written}
+use Rattle.code_record.specs.Record.{mostQubits, generators}
 use Rattle.sheet.specs.Text.{laid, untouched}
 use Rattle.sheet.specs.Writer.{rowLines}
 use Rattle.sheet.proofs.WrittenText.{written-fault}

@@ -7,13 +7,13 @@ use mathlib.Core.Path.{_≡_, refl, ap, sym, _∙_}
 use Prim.Native.Nat.{_+_, _-_, _<_, _≤_}
 use native.Mathlib.Omega.{arith}
 use lib.ListN.{length}
-use Rattle.sheet.specs.declared.Code.{Code}
-use Rattle.sheet.specs.declared.Family.{Family}
-use Rattle.sheet.specs.declared.Refusal.{Refusal}
-use Rattle.sheet.specs.Refusals.{refuseIf, _then_}
-use Rattle.sheet.specs.Record.{generatorRoom, generators, generatorsAt}
-use Rattle.sheet.proofs.Limits.{limits}
-use Rattle.sheet.proofs.ArrayLengths.{sized-of}
+use Rattle.code_record.specs.declared.Code.{Code}
+use Rattle.code_record.specs.declared.Family.{Family}
+use Rattle.code_record.specs.declared.Refusal.{Refusal}
+use Rattle.code_record.specs.Refusals.{refuseIf, _then_}
+use Rattle.code_record.specs.Record.{generatorRoom, generators, generatorsAt}
+use Rattle.code_record.proofs.Limits.{limits}
+use Rattle.code_record.proofs.ArrayLengths.{sized-of}
 use Rattle.stabilizer.specs.Checks.{firstFault, clash}
 use Rattle.elimination.proofs.Walk.{Left, fault-start, fault-at, fault-end}
 use borrow.Author.Needs.{needs}

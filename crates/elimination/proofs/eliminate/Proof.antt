@@ -3,8 +3,8 @@ use mathlib.Core.Bool.{true}
 use mathlib.Core.List.{[]}
 use mathlib.Core.Option.{none}
 use mathlib.Core.Path.{_≡_, ap, sym, _∙_}
-use Rattle.sheet.specs.Record.{generators, generatorsAt, withinLimits}
-use Rattle.sheet.proofs.RowLimits.{passed, failed}
+use Rattle.code_record.specs.Record.{generators, generatorsAt, withinLimits}
+use Rattle.code_record.proofs.RowLimits.{passed, failed}
 use Rattle.stabilizer.specs.Checks.{firstFault, clash}
 use Rattle.elimination.specs.Answers.{checkedRefusal}
 use Rattle.elimination.proofs.CheckOrder.{outside-limits, clashing, clash-free}

@@ -6,11 +6,11 @@ use mathlib.Core.Path.{_≡_, refl, ap, _∙_}
 use Prim.Native.Nat.{ℕ, _+_, _-_, _^_, _<_, _≤_}
 use native.Mathlib.Omega.{arith}
 use lib.ListN.{length, take}
-use Rattle.sheet.specs.declared.Code.{Code}
-use Rattle.sheet.specs.declared.Refusal.{Refusal}
-use Rattle.sheet.specs.Record.{generatorRoom, mostQubits, isRow, generators, generatorsAt}
-use Rattle.sheet.proofs.Limits.{limits}
-use Rattle.sheet.proofs.ArrayLengths.{sized-of}
+use Rattle.code_record.specs.declared.Code.{Code}
+use Rattle.code_record.specs.declared.Refusal.{Refusal}
+use Rattle.code_record.specs.Record.{generatorRoom, mostQubits, isRow, generators, generatorsAt}
+use Rattle.code_record.proofs.Limits.{limits}
+use Rattle.code_record.proofs.ArrayLengths.{sized-of}
 use Rattle.stabilizer.specs.Canonical.{canonicalGenerators}
 use Rattle.stabilizer.specs.Checks.{firstFault, dependence}
 use Rattle.stabilizer.proofs.All.{all-of}

@@ -1,6 +1,6 @@
 -- For each family, the kind of the line is its own, or another.
 use borrow.Author.Needs.{needs}
-use Rattle.sheet.specs.declared.Family.{Family}
+use Rattle.code_record.specs.declared.Family.{Family}
 use Rattle.lines.specs.declared.LineKind.{LineKind}
 use Rattle.lines.proofs.Keys.{other-kind, row-begins, no-row-begins}
 use Rattle.lines.proofs.begins_row.Statement.{statement}

@@ -9,8 +9,8 @@ use borrow.Author.Tests.{not-true, not-false}
 use lib.ListN.{length, take, drop, getD}
 use Rattle.pauli.specs.declared.Pauli.{Pauli}
 use Rattle.pauli.specs.Letters.{signIn, readSign}
-use Rattle.sheet.specs.declared.Lines.{Lines}
-use Rattle.sheet.specs.Record.{mostQubits}
+use Rattle.code_record.specs.declared.Lines.{Lines}
+use Rattle.code_record.specs.Record.{mostQubits}
 use Rattle.sheet.specs.Reader.{Parsed, isLine, readLetters}
 use Rattle.lines.specs.declared.RowLine.{RowLine}
 use Rattle.lines.specs.Answers.{keyOf, rowIn, rowBehindKey, withinQubits, rowAnswer}

@@ -11,10 +11,10 @@ use lib.Dec.{eqb}
 use lib.ListN.{length, drop}
 use Rattle.pauli.specs.declared.Pauli.{Pauli}
 use Rattle.pauli.specs.Lists.{bytes}
-use Rattle.sheet.specs.declared.Lines.{Lines}
-use Rattle.sheet.specs.declared.Refusal.{Refusal}
+use Rattle.code_record.specs.declared.Lines.{Lines}
+use Rattle.code_record.specs.declared.Refusal.{Refusal}
+use Rattle.code_record.specs.Record.{firstGeneratorAt, mostGenerators}
 use Rattle.sheet.specs.Reader.{Parsed, got, begins, rowsUpTo}
-use Rattle.sheet.specs.Record.{firstGeneratorAt, mostGenerators}
 use Rattle.sheet.proofs.Parts.{tail-of}
 use Rattle.reader.specs.Answers.{Reads, mapped, countedRows}
 use Rattle.reader.proofs.Reached.{reads-refused, reads-read, reads-as, Reached, was-read, was-refused}

@@ -7,8 +7,8 @@ use native.Mathlib.Omega.{arith}
 use borrow.Author.Needs.{needs}
 use lib.ListN.{length, drop}
 use Rattle.pauli.specs.declared.Pauli.{Pauli}
+use Rattle.code_record.specs.Record.{mostQubits, logicalRoom, pairCount, filled}
 use Rattle.sheet.specs.Reader.{Reader, logicalLines, claimLine}
-use Rattle.sheet.specs.Record.{mostQubits, logicalRoom, pairCount, filled}
 use Rattle.sheet.proofs.Parts.{tail-of}
 use Rattle.lines.specs.Answers.{rowAnswer, withinQubits}
 use Rattle.reader.specs.Answers.{Reads, mapped, countedRows}

@@ -6,10 +6,10 @@ use native.Mathlib.Omega.{arith}
 use borrow.Author.Needs.{needs}
 use lib.ListN.{length, take, drop}
 use Rattle.pauli.specs.declared.Pauli.{Pauli}
-use Rattle.sheet.specs.declared.Lines.{Lines}
-use Rattle.sheet.specs.declared.Refusal.{Refusal}
+use Rattle.code_record.specs.declared.Lines.{Lines}
+use Rattle.code_record.specs.declared.Refusal.{Refusal}
+use Rattle.code_record.specs.Record.{logicalRoom, filled, rowKey}
 use Rattle.sheet.specs.Reader.{Parsed, got, rowsUpTo}
-use Rattle.sheet.specs.Record.{logicalRoom, filled, rowKey}
 use Rattle.reader.specs.Answers.{mapped, countedRows}
 use Rattle.reader.proofs.Reached.{reads-refused, reads-read, Reached, was-read, was-refused}
 use Rattle.reader.proofs.RowLines.{mapped-stop, mapped-got, then-mapped, stop-mapped, shorter-room}

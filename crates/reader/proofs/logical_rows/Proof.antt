@@ -8,8 +8,8 @@ use borrow.Author.Needs.{needs}
 use lib.ListN.{length, take, set, getD, replicate}
 use lib.Seq.{take-suc, length-take-le}
 use Rattle.pauli.specs.Product.{identity}
-use Rattle.sheet.specs.Record.{generatorRoom, logicalRoom, filled}
-use Rattle.sheet.proofs.Filled.{filled-more}
+use Rattle.code_record.specs.Record.{generatorRoom, logicalRoom, filled}
+use Rattle.code_record.proofs.Filled.{filled-more}
 use Rattle.reader.proofs.logical_rows.Statement.{statement}
 use Rattle.reader.proofs.logical_rows.Tie as tie
 

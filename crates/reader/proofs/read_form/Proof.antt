@@ -1,7 +1,7 @@
 -- A refusal of the lines stays; bytes behind them are one.
 use mathlib.Core.Path.{_≡_, ap, _∙_}
 use native.Mathlib.Omega.{arith}
-use Rattle.sheet.specs.declared.LinesReading.{LinesReading}
+use Rattle.code_record.specs.declared.LinesReading.{LinesReading}
 use Rattle.sheet.specs.Reader.{readLines, readForm, answered, linesReading, formReading}
 use Rattle.sheet.proofs.ReadBack.{reads-are-lawful, read-within}
 use Rattle.reader.proofs.Sheets.{claim-near, form-refused, form-behind, form-whole}

@@ -8,9 +8,9 @@ use borrow.Author.Needs.{needs}
 use lib.ListN.{drop, replicate, length-drop}
 use Rattle.pauli.specs.declared.Pauli.{Pauli}
 use Rattle.pauli.specs.Lists.{bytes}
-use Rattle.sheet.specs.declared.Refusal.{Refusal}
+use Rattle.code_record.specs.declared.Refusal.{Refusal}
+use Rattle.code_record.specs.Record.{generatorRoom, filled, rowKey}
 use Rattle.sheet.specs.Reader.{Reader, got, stop, done, continue, begins, rowLine, rowsUpTo}
-use Rattle.sheet.specs.Record.{generatorRoom, filled, rowKey}
 use Rattle.sheet.proofs.Parts.{tail-of}
 use Rattle.lines.specs.Answers.{rowAnswer, rowBehindKey, withinQubits}
 use Rattle.reader.specs.Answers.{Reads, mapped, countedRows}

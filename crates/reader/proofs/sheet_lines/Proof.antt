@@ -8,9 +8,9 @@ use native.Mathlib.Nat.{lt-of-le-of-lt}
 use borrow.Author.Needs.{needs}
 use lib.ListN.{drop}
 use Rattle.pauli.specs.declared.Pauli.{Pauli}
+use Rattle.code_record.specs.Record.{mostQubits, mostGenerators, firstGeneratorAt}
 use Rattle.sheet.specs.Reader.{Reader, SheetRead, qubitLine, distanceLine, generatorLines, linesAfter, sheetLines}
 use Rattle.sheet.specs.Reader.{answered}
-use Rattle.sheet.specs.Record.{mostQubits, mostGenerators, firstGeneratorAt}
 use Rattle.sheet.proofs.Outcome.{what-was-got}
 use Rattle.sheet.proofs.Consumed.{qubit-line-outcome, distance-line-outcome}
 use Rattle.sheet.proofs.Parts.{tail-of}

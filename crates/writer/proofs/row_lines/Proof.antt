@@ -5,7 +5,7 @@ use mathlib.Core.Path.{_≡_, ap, _∙_}
 use Prim.Native.Nat.{ℕ, _+_, _-_, _≤_}
 use native.Mathlib.Omega.{arith}
 use lib.ListN.{length}
-use Rattle.sheet.specs.Record.{keyByte}
+use Rattle.code_record.specs.Record.{keyByte}
 use Rattle.sheet.specs.Text.{laid}
 use Rattle.writer.specs.Lines.{rowLineText, familyText}
 use Rattle.writer.proofs.Laid.{back, length-lent, Holds, holds-nothing, holds-as, holds-more}

@@ -3,13 +3,13 @@ use mathlib.Core.Path.{_≡_, ap, ap₂, sym, _∙_}
 use Prim.Native.Nat.{ℕ, _+_, _*_, _≤_}
 use native.Mathlib.Omega.{arith}
 use lib.ListN.{length}
-use Rattle.sheet.specs.declared.Code.{Code}
-use Rattle.sheet.specs.Record.{mostQubits, longestSheet, pairCount}
-use Rattle.sheet.specs.Statements.{Sized}
+use Rattle.code_record.specs.declared.Code.{Code}
+use Rattle.code_record.specs.Record.{mostQubits, pairCount, Sized}
+use Rattle.code_record.proofs.ArrayLengths.{sized-of}
+use Rattle.code_record.proofs.Limits.{limits}
+use Rattle.sheet.specs.Statements.{longestSheet}
 use Rattle.sheet.specs.Writer.{sheetText}
-use Rattle.sheet.proofs.ArrayLengths.{sized-of}
 use Rattle.sheet.proofs.Lengths.{sheetText-le}
-use Rattle.sheet.proofs.Limits.{limits}
 use Rattle.writer.proofs.Sheet.{sheet-length}
 use borrow.Author.Needs.{needs}
 use Rattle.writer.proofs.sheet_length.Statement.{statement}

@@ -5,12 +5,12 @@ use mathlib.Core.Path.{_≡_, refl, ap, _∙_}
 use Prim.Native.Nat.{ℕ, _+_, _^_, _≤_, _<_}
 use native.Mathlib.Omega.{arith}
 use lib.ListN.{length}
-use Rattle.sheet.specs.declared.Code.{Code}
-use Rattle.sheet.specs.declared.Family.the-variants.{LogicalX, LogicalZ}
-use Rattle.sheet.specs.Record.{pairCount}
+use Rattle.code_record.specs.declared.Code.{Code}
+use Rattle.code_record.specs.declared.Family.the-variants.{LogicalX, LogicalZ}
+use Rattle.code_record.specs.Record.{pairCount}
+use Rattle.code_record.proofs.Limits.{Limits, limits}
+use Rattle.code_record.proofs.ArrayLengths.{sized-of}
 use Rattle.sheet.specs.Text.{laid}
-use Rattle.sheet.proofs.Limits.{Limits, limits}
-use Rattle.sheet.proofs.ArrayLengths.{sized-of}
 use Rattle.writer.specs.Lines.{familyText}
 use Rattle.writer.proofs.Laid.{lent, back, Holds, end-within, room-behind, holds-as, holds-more}
 use Rattle.writer.proofs.Sheet.{toN, toD, toG, toX, toZ, toW, sheet-parts, Room, room}

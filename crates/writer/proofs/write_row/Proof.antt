@@ -4,8 +4,8 @@ use mathlib.Core.Path.{ap, sym, _∙_}
 use Prim.Native.Nat.{_≤_}
 use native.Mathlib.Omega.{arith}
 use lib.ListN.{length}
-use Rattle.sheet.specs.declared.Written.{Written}
-use Rattle.sheet.specs.Record.{mostQubits}
+use Rattle.code_record.specs.declared.Written.{Written}
+use Rattle.code_record.specs.Record.{mostQubits}
 use Rattle.sheet.specs.Text.{untouched}
 use Rattle.writer.specs.Lines.{rowLineText}
 use Rattle.writer.proofs.Lines.{length-rowLineText, row-outside-limits, row-too-short, row-has-room}

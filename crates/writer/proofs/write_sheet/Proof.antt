@@ -4,11 +4,11 @@ use mathlib.Core.Path.{_≡_, ap, sym, _∙_}
 use Prim.Native.Nat.{_≤_}
 use native.Mathlib.Omega.{arith}
 use lib.ListN.{length}
-use Rattle.sheet.specs.declared.Written.{Written}
-use Rattle.sheet.specs.Record.{withinLimits}
+use Rattle.code_record.specs.declared.Written.{Written}
+use Rattle.code_record.specs.Record.{withinLimits}
+use Rattle.code_record.proofs.RowLimits.{passed, failed}
 use Rattle.sheet.specs.Text.{untouched}
 use Rattle.sheet.specs.Writer.{sheetText}
-use Rattle.sheet.proofs.RowLimits.{passed, failed}
 use Rattle.writer.proofs.Sheet.{outside-limits, too-short, has-room}
 use borrow.Author.Needs.{needs}
 use Rattle.writer.proofs.write_sheet.Statement.{statement}

@@ -7,7 +7,7 @@ use Prim.Native.Nat.{_+_, _-_, _≤_}
 use native.Mathlib.Omega.{arith}
 use borrow.Author.Tests.{lt-ltb, le-ltb}
 use lib.Dec.{ltb}
-use Rattle.sheet.specs.Record.{generatorRoom}
+use Rattle.code_record.specs.Record.{generatorRoom}
 use Rattle.stabilizer.specs.Canonical.{pivot}
 use Rattle.elimination.specs.Step.{belowPivot}
 use Rattle.elimination.proofs.GatheredRows.{Grown, grown-none, grown-as, grown-more, grown-all, below-stops}

@@ -1,7 +1,7 @@
 -- No row yet: the count is 0, and the array has +I in every place.
 use mathlib.Core.Path.{ap}
 use lib.ListN.{replicate}
-use Rattle.sheet.specs.Record.{generatorRoom, filled}
+use Rattle.code_record.specs.Record.{generatorRoom, filled}
 use Rattle.elimination.specs.Answers.{reducedOf}
 use Rattle.elimination.proofs.Rows.{value}
 use borrow.Author.Needs.{needs}

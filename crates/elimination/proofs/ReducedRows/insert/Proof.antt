@@ -6,7 +6,7 @@ use Prim.Native.Nat.{ℕ, _+_, _-_, _<_, _≤_}
 use native.Mathlib.Omega.{arith}
 use lib.ListN.{length, drop, length-map}
 use Rattle.pauli.specs.declared.Pauli.{Pauli}
-use Rattle.sheet.specs.Record.{generatorRoom}
+use Rattle.code_record.specs.Record.{generatorRoom}
 use Rattle.stabilizer.specs.Canonical.{cleared, insertByPivot}
 use Rattle.elimination.specs.Answers.{rowsIn, reducedOf}
 use Rattle.elimination.specs.Step.{belowPivot}

@@ -4,7 +4,7 @@ use mathlib.Core.Path.{_≡_, refl, ap, sym, _∙_}
 use Prim.Native.Nat.{_+_, _-_, _<_}
 use native.Mathlib.Omega.{arith}
 use lib.ListN.{length, drop}
-use Rattle.sheet.specs.Record.{generatorRoom}
+use Rattle.code_record.specs.Record.{generatorRoom}
 use Rattle.stabilizer.specs.Canonical.{reduced}
 use Rattle.elimination.specs.Answers.{rowsIn}
 use Rattle.elimination.proofs.Rows.{reduced-at, reduced-end}

@@ -5,7 +5,7 @@ use mathlib.Core.Path.{_≡_, ap, sym, _∙_}
 use Prim.Native.Nat.{ℕ}
 use borrow.Author.Needs.{needs}
 use borrow.Author.Tests.{ltb-true, ltb-false}
-use Rattle.sheet.specs.declared.Lines.{Lines}
+use Rattle.code_record.specs.declared.Lines.{Lines}
 use Rattle.sheet.specs.Reader.{Parsed, got}
 use Rattle.lines.specs.declared.NumberLine.{NumberLine}
 use Rattle.lines.specs.Answers.{numberAnswer}

@@ -1,0 +1,19 @@
+-- Whether a Pauli is a row of n qubits: the masks are tried first, then the phase.
+use mathlib.Core.Path.{sym, _∙_}
+use Rattle.code_record.specs.Record.{isRow}
+use Rattle.code_record.proofs.RowLimits.{and-true-l, and-false-l}
+use borrow.Author.Needs.{needs}
+use Rattle.code_record.proofs.is_row.Statement.{statement}
+use Rattle.code_record.proofs.is_row.Tie as tie
+
+returns : tie.Need-returns
+unfolding isRow
+returns c =
+    c .is-signed-row .ensures ∙ and-true-l _ (sym (c .before .before .on-qubits .ensures) ∙ c .before .if1 .taken)
+
+returns-2 : tie.Need-returns-2
+unfolding isRow
+returns-2 c = c .before .on-qubits .ensures ∙ and-false-l _ (sym (c .before .on-qubits .ensures) ∙ c .if1 .left)
+
+pub is-row-spec : {M : Type 1} → statement M
+is-row-spec = tie.close (tie.spec (λ c κs. search needs) (λ c κs. search needs) returns returns-2)
