@@ -1,4 +1,3 @@
-pub mod Values
-pub mod Keys
-pub mod Lines
 pub mod Reading
+pub mod Lines
+pub mod LetterLines

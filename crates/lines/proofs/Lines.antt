@@ -1,73 +1,111 @@
--- The form of a line, as the code tests it: its key, the line feed behind its value; and what a reader of it answers.
+-- The form of a line, as the code tests it: its key, and its value with a line feed behind it.
 use mathlib.Core.Bool.{Bool, true, false, cond}
 use mathlib.Core.List.{List, [], _∷_}
-use mathlib.Core.Option.{Option, none, some}
+use mathlib.Core.Option.{Option, none, some, Option·none-ne-some}
 use mathlib.Core.Path.{_≡_, refl, ap, sym, _∙_}
 use Prim.Native.Nat.{ℕ, suc, _+_, _-_, _<_, _≤_}
-use native.Mathlib.Numerals.{add-one}
 use native.Mathlib.Omega.{arith}
-use borrow.Author.Tests.{eqb-true, eq-eqb, lt-ltb, le-ltb}
+use borrow.Author.Tests.{eqb-true, eq-eqb, le-ltb, lt-ltb}
 use lib.Dec.{eqb}
-use lib.ListN.{length, take, drop, getD, length-drop}
-use lib.Seq.{drop-drop, drop-cons, length-take-le}
-use Rattle.pauli.specs.declared.Pauli.{Pauli}
-use Rattle.pauli.specs.declared.Sign.{Sign}
-use Rattle.pauli.specs.Letters.{readSign, rowOf}
+use lib.ListN.{length, take, drop, getD, length-take, length-drop}
 use Rattle.pauli.specs.Lists.{bytes}
 use Rattle.code_record.specs.declared.Family.{Family}
 use Rattle.code_record.specs.declared.Refusal.{Refusal}
 use Rattle.code_record.specs.Record.{mostQubits, mostDistance, rowKey}
-use Rattle.sheet.specs.Reader.{Reader, got, stop, continue, begins, gotOr, readLetters, readRow, inRange}
-use Rattle.sheet.specs.Reader.{isLine, lineOf, readNumber, qubitDigits, qubitLine, distanceLine, rowLine, claimLine}
+use Rattle.sheet.specs.Reader.{Parsed, Reader, got, stop, continue, begins, gotOr, readRow, inRange}
+use Rattle.sheet.specs.Reader.{isLine, lineOf, readNumber, qubitDigits, qubitLine, distanceLine, rowLine}
 use Rattle.sheet.specs.Text.{lineFeed}
 use Rattle.sheet.proofs.Line.{nonzero-within}
-use Rattle.lines.specs.declared.LineKind.{LineKind}
-use Rattle.lines.specs.LineKinds.{kindByte, kindKey, lineKind}
-use Rattle.lines.specs.Answers.{keyOf, rowBehindKey, withinQubits}
-use Rattle.lines.proofs.Keys.{key-taken, kind-begins, other-begins, rowKind, row-key}
-use Rattle.lines.proofs.Values.{row-no-sign, row-no-letters, row-value}
+use Rattle.line_parts.specs.declared.LineKind.{LineKind}
+use Rattle.line_parts.specs.LineKinds.{kindByte, kindKey, lineKind}
+use Rattle.line_parts.specs.Values.{mostDigits, upTo}
+use Rattle.line_parts.proofs.Keys.{key-taken, kind-begins, other-begins, rowKind, row-key}
+use Rattle.line_parts.proofs.Values.{few-bytes, many-bytes}
+use Rattle.lines.specs.declared.NumberLine.{NumberLine}
+use Rattle.lines.specs.Answers.{keyOf, valueFrom, numberBehindKey, rowBehindKey, withinQubits, numberAnswer}
+use Rattle.lines.proofs.Reading.{then-stop}
 
--- The byte behind the value decides.
-pub line-feed-decides : (m : ℕ) (s : List ℕ) → isLine (keyOf s) m s ≡ eqb (getD s (m + 2) 0) 10
-unfolding keyOf isLine begins lineFeed
-line-feed-decides m s = by-length s
-  where
-    two : m + 2 ≡ suc (suc m)
-    two = omega arith
+-- A part of m bytes from a place on.
+part-of : (at m : ℕ) (s : List ℕ) → take (m + at - at) (drop at s) ≡ take m (drop at s)
+part-of at m s = let places : m + at - at ≡ m = omega arith in ap (λ k. take k (drop at s)) places
 
-    by-length : (s : List ℕ) → isLine (keyOf s) m s ≡ eqb (getD s (m + 2) 0) 10
-    by-length [] = refl
-    by-length (c ∷ []) = rw (two, eq-eqb c c refl)
-    by-length (c ∷ d ∷ s) = rw (two, eq-eqb c c refl, eq-eqb d d refl)
+-- ---- the value of the bytes from a place on
 
--- A line ends within the bytes.
-pub line-within : (m : ℕ) (s : List ℕ) → isLine (keyOf s) m s ≡ true → m + 3 ≤ length s
-line-within m s formed =
-    let ten = eqb-true (getD s (m + 2) 0) 10 (sym (line-feed-decides m s) ∙ formed) in
-    omega (arith, nonzero-within s (m + 2) (omega arith))
+module _ {A : Type 0} (from m : ℕ) (read : List ℕ → Option A) (s : List ℕ) where
+  pub value-none : eqb (getD s (m + from) 0) lineFeed ≡ false → valueFrom from m read s ≡ none
+  unfolding valueFrom
+  value-none e = rw e
 
--- ---- the three outcomes of a line
+  pub value-read : eqb (getD s (m + from) 0) lineFeed ≡ true
+      → valueFrom from m read s ≡ read (take (m + from - from) (drop from s))
+  unfolding valueFrom
+  value-read e = rw (e, part-of)
 
+  -- The line feed is within the bytes.
+  pub feed-within : eqb (getD s (m + from) 0) lineFeed ≡ true → m + from < length s
+  unfolding lineFeed
+  feed-within e = nonzero-within s (m + from) (omega (arith, eqb-true (getD s (m + from) 0) 10 e))
+
+  pub value-within : {a : A} → valueFrom from m read s ≡ some a → m + from < length s
+  value-within {a} e = by-feed (eqb (getD s (m + from) 0) lineFeed) refl
+    where
+      by-feed : (b : Bool) → eqb (getD s (m + from) 0) lineFeed ≡ b → m + from < length s
+      by-feed true f = feed-within f
+      by-feed false f = absurd (Option·none-ne-some a (sym (value-none f) ∙ e))
+
+-- A value of no more bytes than may be read, and of more.
+module _ {A : Type 0} (most from m : ℕ) (read : List ℕ → Option A) (s : List ℕ) where
+  pub value-few : m ≤ most → valueFrom from m (upTo most read) s ≡ valueFrom from m read s
+  unfolding valueFrom
+  value-few h =
+      ap (λ o. cond (eqb (getD s (m + from) 0) lineFeed) o none)
+      (few-bytes most read (take m (drop from s)) (omega (arith, length-take m (drop from s))))
+
+  pub value-many : most < m → valueFrom from m (upTo most read) s ≡ none
+  unfolding valueFrom
+  value-many h = by-feed (eqb (getD s (m + from) 0) lineFeed) refl
+    where
+      by-feed : (b : Bool) → eqb (getD s (m + from) 0) lineFeed ≡ b
+          → cond b (upTo most read (take m (drop from s))) none ≡ none
+      by-feed true e =
+          many-bytes most read (take m (drop from s))
+          (omega (arith, length-take m (drop from s), length-drop from s, feed-within from m read s e))
+      by-feed false e = refl
+
+-- ---- a line behind any key
+
+-- The value decides.
 module _ {A : Type 0} (m : ℕ) (read : List ℕ → Option A) (refusal : Refusal) (s : List ℕ) where
-  pub line-off-form : isLine (keyOf s) m s ≡ false → lineOf (keyOf s) m read refusal s ≡ stop refusal
-  unfolding lineOf
-  line-off-form e = rw e
+  pub line-by-value : lineOf (keyOf s) m read refusal s ≡ gotOr refusal (valueFrom 2 m read s) (drop (m + 3) s)
+  unfolding keyOf lineOf isLine begins lineFeed valueFrom gotOr
+  line-by-value = by-length s
+    where
+      two : m + 2 ≡ suc (suc m)
+      two = omega arith
 
-  module _ (formed : isLine (keyOf s) m s ≡ true) where
-    two : length (keyOf s) ≡ 2
-    unfolding keyOf
-    two = length-take-le 2 s (omega (arith, line-within m s formed))
+      three : m + 3 ≡ suc (suc (m + 1))
+      three = omega arith
 
-    pub line-no-value : read (take m (drop 2 s)) ≡ none → lineOf (keyOf s) m read refusal s ≡ stop refusal
-    unfolding lineOf gotOr
-    line-no-value f = rw (formed, two, f)
+      chosen : (b : Bool) (o : Option A) (rest : List ℕ)
+          → cond b (gotOr refusal o rest) (stop refusal) ≡ gotOr refusal (cond b o none) rest
+      chosen true o rest = refl
+      chosen false o rest = refl
 
-    pub line-value : (a : A) → read (take m (drop 2 s)) ≡ some a
-        → lineOf (keyOf s) m read refusal s ≡ got a (drop (m + 3) s)
-    unfolding lineOf gotOr
-    line-value a f =
-        let places : 2 + (m + 1) ≡ m + 3 = omega arith in
-        rw (formed, two, f) (ap (got a) (drop-drop (m + 1) 2 s ∙ ap (λ i. drop i s) places))
+      by-length : (s : List ℕ)
+          → lineOf (keyOf s) m read refusal s ≡ gotOr refusal (valueFrom 2 m read s) (drop (m + 3) s)
+      by-length [] = refl
+      by-length (c ∷ []) = rw (two, eq-eqb c c refl)
+      by-length (c ∷ d ∷ s) =
+          rw (two, three, eq-eqb c c refl, eq-eqb d d refl)
+          (chosen (eqb (getD s m 0) 10) (read (take m s)) (drop (m + 1) s))
+
+  pub line-no-value : valueFrom 2 m read s ≡ none → lineOf (keyOf s) m read refusal s ≡ stop refusal
+  unfolding gotOr
+  line-no-value e = line-by-value ∙ ap (λ o. gotOr refusal o (drop (m + 3) s)) e
+
+  pub line-value : {a : A} → valueFrom 2 m read s ≡ some a → lineOf (keyOf s) m read refusal s ≡ got a (drop (m + 3) s)
+  unfolding gotOr
+  line-value e = line-by-value ∙ ap (λ o. gotOr refusal o (drop (m + 3) s)) e
 
 -- ---- a line of a kind
 
@@ -81,26 +119,6 @@ module _ (k : LineKind) {A : Type 0} (m : ℕ) (read : List ℕ → Option A) (r
   unfolding lineOf isLine
   line-of-other other = rw (other-begins k s other)
 
--- The lines of n, d and w by their kinds' keys.
-pub qubit-line-form : (s : List ℕ)
-    → qubitLine s
-    ≡ continue (lineOf (kindKey LineKind.Qubits) (qubitDigits s) readNumber (Refusal.Form 1) s)
-    (inRange 2 mostQubits (Refusal.QubitCount 1))
-unfolding qubitLine bytes
-qubit-line-form s = refl
-
-pub distance-line-form : (s : List ℕ)
-    → distanceLine s
-    ≡ continue (lineOf (kindKey LineKind.Distance) 1 readNumber (Refusal.Form 2) s)
-    (inRange 1 mostDistance (Refusal.DistanceRange 2))
-unfolding distanceLine bytes
-distance-line-form s = refl
-
-pub claim-line-form : (n at : ℕ) (s : List ℕ)
-    → claimLine n at s ≡ lineOf (kindKey LineKind.Claim) n readLetters (Refusal.Form at) s
-unfolding claimLine bytes
-claim-line-form n at s = refl
-
 -- The line of a row, behind the key of its family.
 pub row-line-form : (family : Family) (n at : ℕ) (s : List ℕ) → begins (bytes (rowKey family)) s ≡ true
     → rowLine (rowKey family) n at s ≡ rowBehindKey n at s
@@ -109,48 +127,45 @@ row-line-form family n at s e =
     ap (λ key. lineOf key (n + 1) readRow (Refusal.Form at) s)
     (row-key family ∙ key-taken (rowKind family) s (ap (λ key. begins key s) (sym (row-key family)) ∙ e))
 
-pub digits-few : (s : List ℕ) → (0 < qubitDigits s) × (qubitDigits s ≤ 2)
+-- ---- the lines of n and d
+
+-- A number behind the key of a kind, and in a range.
+abbrev numberOf : LineKind → (digits at low high : ℕ) → Refusal → Reader ℕ
+numberOf k digits at low high outside s =
+    continue (lineOf (kindKey k) digits readNumber (Refusal.Form at) s) (inRange low high outside)
+
+pub qubit-line-form : (s : List ℕ)
+    → qubitLine s ≡ numberOf LineKind.Qubits (qubitDigits s) 1 2 mostQubits (Refusal.QubitCount 1) s
+unfolding qubitLine bytes
+qubit-line-form s = refl
+
+pub distance-line-form : (s : List ℕ)
+    → distanceLine s ≡ numberOf LineKind.Distance 1 2 1 mostDistance (Refusal.DistanceRange 2) s
+unfolding distanceLine bytes
+distance-line-form s = refl
+
+-- A line of another kind is refused; behind the kind's key, any key will do.
+module _ (k : LineKind) (digits at low high : ℕ) (outside : Refusal) (s : List ℕ) {definition : Parsed ℕ}
+    (form : definition ≡ numberOf k digits at low high outside s) {kind : LineKind} (told : kind ≡ lineKind s)
+    {r : NumberLine} where
+  pub number-of-other : r ≡ numberAnswer s (stop (Refusal.Form at)) → (kind ≡ k → ⊥) → r ≡ numberAnswer s definition
+  number-of-other e other =
+      e ∙ ap (numberAnswer s) (sym (form ∙ then-stop _ (line-of-other k _ _ _ s (λ f. other (told ∙ f)))))
+
+  pub number-of-kind : r ≡ numberAnswer s (continue (numberBehindKey digits at s) (inRange low high outside))
+      → 0 < kindByte k → kind ≡ k → r ≡ numberAnswer s definition
+  number-of-kind e keyed f =
+      e ∙ ap (λ p. numberAnswer s (continue p (inRange low high outside)))
+      (sym (line-of-kind k digits readNumber (Refusal.Form at) s keyed (sym told ∙ f)))
+      ∙ ap (numberAnswer s) (sym form)
+
+pub digits-few : (s : List ℕ) → qubitDigits s ≤ mostDigits
 unfolding qubitDigits
 digits-few s = few (eqb (getD s 3 0) lineFeed)
   where
-    few : (b : Bool) → (0 < cond b 1 2) × (cond b 1 2 ≤ 2)
-    few true = (omega arith, omega arith)
-    few false = (omega arith, omega arith)
-
--- A part of m bytes from a place on.
-pub part-of : (at m : ℕ) (s : List ℕ) → take (m + at - at) (drop at s) ≡ take m (drop at s)
-part-of at m s = let places : m + at - at ≡ m = omega arith in ap (λ k. take k (drop at s)) places
-
-pub part-length : (at m : ℕ) (s : List ℕ) → m + at ≤ length s → length (take (m + at - at) (drop at s)) ≡ m
-part-length at m s h = ap length (part-of at m s) ∙ length-take-le m (drop at s) (omega (arith, length-drop at s))
-
--- ---- the line of a row
-
--- The value of a row's line: the sign, and the letters behind it.
-row-bytes : (n : ℕ) (s : List ℕ) → n + 4 ≤ length s → take (n + 1) (drop 2 s) ≡ getD s 2 0 ∷ take n (drop 3 s)
-row-bytes n s h = ap (λ k. take k (drop 2 s)) (add-one n) ∙ ap (take (suc n)) (drop-cons s 2 0 (omega arith))
-
-module _ (n at : ℕ) (s : List ℕ) (formed : isLine (keyOf s) (n + 1) s ≡ true) where
-  pub row-within : n + 4 ≤ length s
-  row-within = omega (arith, line-within (n + 1) s formed)
-
-  no-row : readRow (getD s 2 0 ∷ take n (drop 3 s)) ≡ none → rowBehindKey n at s ≡ stop (Refusal.Form at)
-  no-row e = line-no-value (n + 1) readRow (Refusal.Form at) s formed (ap readRow (row-bytes n s row-within) ∙ e)
-
-  pub row-line-no-sign : readSign (getD s 2 0) ≡ none → rowBehindKey n at s ≡ stop (Refusal.Form at)
-  row-line-no-sign e = no-row (row-no-sign (getD s 2 0) (take n (drop 3 s)) e)
-
-  pub row-line-no-letters : readLetters (take n (drop 3 s)) ≡ none → rowBehindKey n at s ≡ stop (Refusal.Form at)
-  row-line-no-letters e = no-row (row-no-letters (getD s 2 0) (take n (drop 3 s)) e)
-
-  pub row-line-value : (g : Sign) (P : Pauli) → readSign (getD s 2 0) ≡ some g
-      → readLetters (take n (drop 3 s)) ≡ some P
-      → rowBehindKey n at s ≡ got (rowOf g (P .a) (P .b)) (drop (n + 4) s)
-  row-line-value g P e h =
-      let places : n + 1 + 3 ≡ n + 4 = omega arith in
-      line-value (n + 1) readRow (Refusal.Form at) s formed (rowOf g (P .a) (P .b))
-      (ap readRow (row-bytes n s row-within) ∙ row-value (getD s 2 0) (take n (drop 3 s)) g P e h)
-      ∙ ap (λ i. got (rowOf g (P .a) (P .b)) (drop i s)) places
+    few : (b : Bool) → cond b 1 2 ≤ mostDigits
+    few true = omega arith
+    few false = omega arith
 
 -- Up to the most qubits, and beyond.
 module _ {A : Type 0} (n at : ℕ) (reader : Reader A) (s : List ℕ) where

@@ -2,7 +2,7 @@
 -- begins.
 use mathlib.Core.List.{List}
 use mathlib.Core.Logic.{_⊎_}
-use mathlib.Core.Path.{_≡_, refl, ap, sym, _∙_}
+use mathlib.Core.Path.{_≡_, ap, sym, _∙_}
 use Prim.Native.Nat.{ℕ, _-_, _<_, _≤_}
 use native.Mathlib.Omega.{arith}
 use lib.ListN.{length, drop, length-drop}
@@ -28,20 +28,6 @@ module _ (s : List ℕ) (used : ℕ) (within : used ≤ length s) where
   unfolding rowAnswer linesOf valueOr
   row-read P e =
       ap (λ k. record { answer = Lines.Read k; row = P }) (bytes-used s used within) ∙ ap (rowAnswer s) (sym e)
-
--- ---- what the answer tells of the definition
-
-module _ {A : Type 0} (s : List ℕ) where
-  pub was-refused : {refusal : Refusal} (p : Parsed A) → linesOf s p ≡ Lines.Refused refusal → p ≡ stop refusal
-  unfolding linesOf
-  was-refused (got a rest) e = absurd (let z : _≡_ {A = ℕ} 0 1 = cc in omega arith)
-  was-refused (stop other) e = cc
-
-  pub was-got : {used : ℕ} (other : A) (p : Parsed A) → linesOf s p ≡ Lines.Read used
-      → (rest : List ℕ) × (p ≡ got (valueOr other p) rest) × (used ≡ length s - length rest)
-  unfolding linesOf valueOr
-  was-got other (got a rest) e = (rest, refl, cc)
-  was-got other (stop refusal) e = absurd (let z : _≡_ {A = ℕ} 0 1 = cc in omega arith)
 
 -- ---- a reader's value goes on to the next reader
 

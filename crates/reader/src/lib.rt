@@ -38,7 +38,7 @@ fn rows_up_to(s: &[u8], family: Family, most: usize, n: usize, at: usize) -> Row
     let mut rows = [one; GENERATOR_ROOM];
     let mut count = 0;
     let mut used = 0;
-    while count < most && lines::begins_row(&s[used..], family) {
+    while count < most && line_parts::begins_row(&s[used..], family) {
         let line = lines::signed_row(&s[used..], n, at + count);
         let answer = line.answer;
         let Lines::Read { used: more } = answer else {
@@ -78,7 +78,7 @@ fn generator_lines(s: &[u8], n: usize) -> Rows
         return generators;
     };
     let count = generators.count;
-    if count == 0 || lines::begins_row(&s[used..], Family::Generator) {
+    if count == 0 || line_parts::begins_row(&s[used..], Family::Generator) {
         let rows = generators.rows;
         return Rows {
             answer: Lines::Refused(Refusal::GeneratorCount(FIRST_GENERATOR_AT + count)),

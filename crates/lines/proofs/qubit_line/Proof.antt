@@ -1,43 +1,44 @@
--- The key, the number's form, of one or two digits, and then its range.
-use mathlib.Core.Path.{ap, sym, _∙_}
+-- The kind, and then the number, of one or two digits.
+use mathlib.Core.List.{List}
+use mathlib.Core.Path.{ap, _∙_}
+use Prim.Native.Nat.{ℕ}
 use native.Mathlib.Omega.{arith}
 use borrow.Author.Needs.{needs}
-use Rattle.sheet.specs.Reader.{qubitDigits}
-use Rattle.lines.specs.declared.LineKind.{LineKind}
+use Rattle.code_record.specs.declared.Refusal.{Refusal}
+use Rattle.code_record.specs.Record.{mostQubits}
+use Rattle.sheet.specs.Reader.{qubitDigits, continue, inRange}
+use Rattle.line_parts.specs.declared.LineKind.{LineKind}
+use Rattle.line_parts.proofs.Keys.{other-kind}
 use Rattle.lines.specs.Answers.{numberBehindKey, numberAnswer}
-use Rattle.lines.proofs.Keys.{other-kind}
-use Rattle.lines.proofs.Lines.{digits-few, line-of-kind, line-of-other, qubit-line-form}
-use Rattle.lines.proofs.Reading.{then-stop}
+use Rattle.lines.proofs.Lines.{digits-few, qubit-line-form, number-of-other, number-of-kind}
 use Rattle.lines.proofs.qubit_line.Statement.{statement}
 use Rattle.lines.proofs.qubit_line.Tie as tie
 
 returns : tie.Need-returns
 returns c =
-    let told = c .before .before .line-kind .ensures in
-    c .refused .ensures _
-    ∙ ap (numberAnswer _)
-    (sym
-    (qubit-line-form _
-    ∙ then-stop _
-    (line-of-other LineKind.Qubits _ _ _ _ (λ e. other-kind LineKind.Qubits (c .before .match .keys2) (told ∙ e)))))
+    let s = c .before .before .before .before .args .s .now in
+    number-of-other LineKind.Qubits (qubitDigits s) 1 2 mostQubits (Refusal.QubitCount 1) s (qubit-line-form s)
+    (c .before .before .line-kind .ensures)
+    (c .refused .ensures s)
+    (other-kind LineKind.Qubits (c .before .match .keys2))
+
+abbrev s : tie.After-qubit-digits → List ℕ
+s c = c .before .before .before .before .before .args .s .now
 
 number-line-requires : tie.Need-number-line-requires
-number-line-requires c κs =
-    let few = digits-few (c .before .before .before .before .before .args .s .now) in
-    let digits = c .qubit-digits .ensures in
-    (omega arith, omega arith)
+number-line-requires c κs = let few = digits-few (s c) in let digits = c .qubit-digits .ensures in omega arith
 
 returns-2 : tie.Need-returns-2
 returns-2 c =
-    let kind = c .before .before .before in
-    let s = kind .before .before .before .before .args .s .now in
-    let told = sym (kind .before .before .line-kind .ensures) ∙ kind .enum-told .given .1 in
-    c .in-range .ensures s _
-    (c .before .number-line .ensures
-    ∙ ap (numberAnswer s)
-    (ap (λ m. numberBehindKey m 1 s) (c .before .before .qubit-digits .ensures)
-    ∙ sym (line-of-kind LineKind.Qubits (qubitDigits s) _ _ s (omega arith) told)))
-    ∙ ap (numberAnswer s) (sym (qubit-line-form s))
+    let told = c .before .before in
+    let s = s (c .before) in
+    number-of-kind LineKind.Qubits (qubitDigits s) 1 2 mostQubits (Refusal.QubitCount 1) s (qubit-line-form s)
+    (told .before .before .line-kind .ensures)
+    (c .number-line .ensures
+    ∙ ap (λ m. numberAnswer s (continue (numberBehindKey m 1 s) (inRange 2 mostQubits (Refusal.QubitCount 1))))
+    (c .before .qubit-digits .ensures))
+    (omega arith)
+    (told .enum-told .given .1)
 
 pub qubit-line-spec : {M : Type 1} → statement M
 qubit-line-spec =
@@ -49,5 +50,4 @@ qubit-line-spec =
     returns
     (λ c κs. search needs)
     number-line-requires
-    (λ c κs. search needs)
     returns-2)

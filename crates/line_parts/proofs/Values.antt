@@ -1,22 +1,33 @@
 -- The values of a line, as the code reads them: numbers of one or two digits, and letters from the last to the first.
 use mathlib.Core.List.{List, [], _∷_}
 use mathlib.Core.Logic.{_⊎_}
-use mathlib.Core.Option.{Option, none, some, Option·map, bind, map-eq-none-iff, map-eq-some-iff}
+use mathlib.Core.Option.{Option, none, some, Option·map, bind, map-eq-some-iff}
 use mathlib.Core.Path.{_≡_, refl, ap, sym, _∙_}
 use Prim.Native.Nat.{ℕ, zero, suc, _+_, _-_, _*_, _^_, _<_, _≤_}
 use native.Mathlib.Nat.{pow-le-pow-right}
 use native.Mathlib.Omega.{arith}
+use borrow.Author.Tests.{lt-ltb, le-ltb}
 use lib.ListN.{length, drop, getD, length-drop}
 use lib.Seq.{drop-cons}
 use Rattle.pauli.specs.declared.Letter.{Letter}
-use Rattle.pauli.specs.declared.Pauli.{Pauli}
-use Rattle.pauli.specs.declared.Sign.{Sign}
 use Rattle.pauli.specs.declared.Sign.the-variants.{Plus}
-use Rattle.pauli.specs.Letters.{xBit, zBit, xMask, zMask, maskOf, readLetter, readSign, rowOf, signedRow, ofLetters}
+use Rattle.pauli.specs.Letters.{xBit, zBit, xMask, zMask, maskOf, readLetter, rowOf, signedRow, ofLetters}
 use Rattle.pauli.proofs.Letters.{xMask-lt, zMask-lt}
 use Rattle.code_record.proofs.Limits.{bounds-between, outside-between}
-use Rattle.sheet.specs.Reader.{readDigit, readEach, readNumber, numberOf, readLetters, readRow}
+use Rattle.sheet.specs.Reader.{readDigit, readEach, readNumber, numberOf, readLetters}
 use Rattle.sheet.proofs.Values.{digit-written, number-from, letters-count}
+use Rattle.line_parts.specs.Values.{upTo}
+
+-- ---- words that are short enough, and those that are not
+
+module _ {A : Type 0} (most : ℕ) (read : List ℕ → Option A) (word : List ℕ) where
+  pub few-bytes : length word ≤ most → upTo most read word ≡ read word
+  unfolding upTo
+  few-bytes h = rw (le-ltb most (length word) h)
+
+  pub many-bytes : most < length word → upTo most read word ≡ none
+  unfolding upTo
+  many-bytes h = rw (lt-ltb most (length word) h)
 
 -- ---- numbers
 
@@ -27,6 +38,11 @@ not-a-digit c h = rw (outside-between 48 57 c h)
 pub a-digit : (c : ℕ) → 48 ≤ c → c ≤ 57 → readDigit c ≡ some (c - 48)
 unfolding readDigit
 a-digit c h k = rw (bounds-between 48 57 c h k)
+
+pub no-bytes : (w : List ℕ) → length w ≡ 0 → readNumber w ≡ none
+unfolding readNumber readEach bind numberOf
+no-bytes [] h = refl
+no-bytes (c ∷ w) h = absurd (omega arith)
 
 pub no-first-digit : (w : List ℕ) → 0 < length w → readDigit (getD w 0 0) ≡ none → readNumber w ≡ none
 unfolding readNumber readEach bind
@@ -71,7 +87,7 @@ module _ (d : ℕ) (nonzero : d ≡ 0 → ⊥) where
 -- ---- letters
 
 -- One more letter in front.
-pub letter-more : (c : ℕ) (l : Letter) (w : List ℕ) (a b : ℕ) → readLetter c ≡ some l
+letter-more : (c : ℕ) (l : Letter) (w : List ℕ) (a b : ℕ) → readLetter c ≡ some l
     → readLetters w ≡ some (rowOf Plus a b)
     → readLetters (c ∷ w) ≡ some (rowOf Plus (xBit l + 2 * a) (zBit l + 2 * b))
 unfolding readLetters readEach bind ofLetters signedRow rowOf xMask zMask maskOf
@@ -105,7 +121,7 @@ letters-small w place a b h e =
       omega (arith, ap (λ P. P .b) (found .2), zMask-lt (found .0), room),
     )
 
-bind-none : {A B : Type 0} (o : Option A) → _≡_ {A = Option B} (bind o (λ a. none)) none
+pub bind-none : {A B : Type 0} (o : Option A) → _≡_ {A = Option B} (bind o (λ a. none)) none
 unfolding bind
 bind-none none = refl
 bind-none (some a) = refl
@@ -118,20 +134,3 @@ no-letter w i h e = ap (Option·map ofLetters) (one-none w i h e)
     one-none [] i h e = absurd (omega arith)
     one-none (c ∷ w) zero h e = rw e
     one-none (c ∷ w) (suc i) h e = rw (one-none w i (omega arith) e) (bind-none (readLetter c))
-
--- ---- rows
-
-pub row-no-sign : (c : ℕ) (w : List ℕ) → readSign c ≡ none → readRow (c ∷ w) ≡ none
-unfolding readRow bind
-row-no-sign c w e = rw e
-
-pub row-no-letters : (c : ℕ) (w : List ℕ) → readLetters w ≡ none → readRow (c ∷ w) ≡ none
-unfolding readRow readLetters bind
-row-no-letters c w e = rw (map-eq-none-iff ofLetters (readEach readLetter w) .0 e) (bind-none (readSign c))
-
-pub row-value : (c : ℕ) (w : List ℕ) (g : Sign) (P : Pauli) → readSign c ≡ some g → readLetters w ≡ some P
-    → readRow (c ∷ w) ≡ some (rowOf g (P .a) (P .b))
-unfolding readRow readLetters bind ofLetters signedRow rowOf
-row-value c w g P e f =
-    let found = map-eq-some-iff ofLetters (readEach readLetter w) .0 f in
-    rw (e, found .1) (ap (λ Q. some (rowOf g (Q .a) (Q .b))) (found .2))

@@ -16,11 +16,11 @@ use Rattle.code_record.specs.Record.{rowKey}
 use Rattle.code_record.proofs.Limits.{both}
 use Rattle.sheet.specs.Reader.{begins}
 use Rattle.sheet.proofs.Values.{readByte-byte}
-use Rattle.lines.specs.declared.LineKind.{LineKind}
-use Rattle.lines.proofs.LineKind.{the-type}
-use Rattle.lines.specs.declared.LineKind.the-variants.{Qubits, Distance, Generator, LogicalX, LogicalZ, Claim}
-use Rattle.lines.specs.declared.LineKind.the-variants.{Other}
-use Rattle.lines.specs.LineKinds.{kindByte, kindKey, kinds, orOther, kindOf, lineKind}
+use Rattle.line_parts.specs.declared.LineKind.{LineKind}
+use Rattle.line_parts.proofs.LineKind.{the-type}
+use Rattle.line_parts.specs.declared.LineKind.the-variants.{Qubits, Distance, Generator, LogicalX, LogicalZ}
+use Rattle.line_parts.specs.declared.LineKind.the-variants.{Claim, Other}
+use Rattle.line_parts.specs.LineKinds.{kindByte, kindKey, kinds, orOther, kindOf, lineKind}
 
 kind-of-byte : (k : LineKind) → kindOf (kindByte k) ≡ k
 unfolding kindOf readByte firstOf

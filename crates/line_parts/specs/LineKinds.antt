@@ -7,9 +7,9 @@ use Prim.Native.Char.{code}
 use lib.Dec.{eqb}
 use lib.ListN.{getD}
 use Rattle.pauli.specs.Lists.{readByte}
-use Rattle.lines.specs.declared.LineKind.{LineKind}
-use Rattle.lines.specs.declared.LineKind.the-variants.{Qubits, Distance, Generator, LogicalX, LogicalZ, Claim}
-use Rattle.lines.specs.declared.LineKind.the-variants.{Other}
+use Rattle.line_parts.specs.declared.LineKind.{LineKind}
+use Rattle.line_parts.specs.declared.LineKind.the-variants.{Qubits, Distance, Generator, LogicalX, LogicalZ}
+use Rattle.line_parts.specs.declared.LineKind.the-variants.{Claim, Other}
 
 -- RULES, "The sheet": each kind of line has its key. The byte of the key; a line of another kind has none.
 abbrev pub kindByte : LineKind → ℕ

@@ -2,10 +2,10 @@
 use mathlib.Core.Logic.{inl, inr, ⊎-elim}
 use mathlib.Core.Path.{sym}
 use borrow.Author.Tests.{ltb-true, ltb-false}
-use Rattle.lines.proofs.Values.{not-a-digit, a-digit}
+use Rattle.line_parts.proofs.Values.{not-a-digit, a-digit}
 use borrow.Author.Needs.{needs}
-use Rattle.lines.proofs.read_digit.Statement.{statement}
-use Rattle.lines.proofs.read_digit.Tie as tie
+use Rattle.line_parts.proofs.read_digit.Statement.{statement}
+use Rattle.line_parts.proofs.read_digit.Tie as tie
 
 returns : tie.Need-returns
 returns c =

@@ -9,11 +9,11 @@ use lib.Dec.{eqb}
 use lib.ListN.{getD, List·getD-eq-default}
 use Rattle.pauli.specs.Lists.{firstOf, readByte}
 use Rattle.pauli.proofs.Lists.{readByte-skip}
-use Rattle.lines.specs.declared.LineKind.the-variants.{Qubits, Distance, Generator, LogicalX, LogicalZ, Claim}
-use Rattle.lines.specs.declared.LineKind.the-variants.{Other}
-use Rattle.lines.specs.LineKinds.{kindByte, orOther, kindOf, lineKind}
-use Rattle.lines.proofs.line_kind.Statement.{statement}
-use Rattle.lines.proofs.line_kind.Tie as tie
+use Rattle.line_parts.specs.declared.LineKind.the-variants.{Qubits, Distance, Generator, LogicalX, LogicalZ}
+use Rattle.line_parts.specs.declared.LineKind.the-variants.{Claim, Other}
+use Rattle.line_parts.specs.LineKinds.{kindByte, orOther, kindOf, lineKind}
+use Rattle.line_parts.proofs.line_kind.Statement.{statement}
+use Rattle.line_parts.proofs.line_kind.Tie as tie
 
 abbrev s : tie.After-shared-slice-known2 → List ℕ
 s c = c .before .before .before .before .args .s .now

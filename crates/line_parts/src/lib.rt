@@ -1,0 +1,139 @@
+// What the parts of a sheet's line are read as: the key at its start, which tells its kind, and the words behind it,
+// which are numbers and letters.
+use code_record::Family;
+use code_record::MOST_QUBITS;
+use pauli::Letter;
+use pauli::LetterRead;
+use pauli::Pauli;
+use pauli::Sign;
+ghost use mathlib.Core.Path.{_≡_};
+ghost use Rattle.pauli.specs.Lists.{bytes};
+ghost use Rattle.code_record.specs.Record.{mostQubits, rowKey};
+ghost use Rattle.sheet.specs.Reader.{begins, readDigit, readNumber, readLetters};
+ghost use Rattle.line_parts.specs.LineKinds.{lineKind};
+ghost use Rattle.line_parts.specs.Values.{numberIn, rowIn, mostDigits, upTo};
+
+// The kinds of lines, each told by its key.
+pub enum LineKind {
+    Qubits,
+    Distance,
+    Generator,
+    LogicalX,
+    LogicalZ,
+    Claim,
+    Other,
+}
+
+// The kind of the line at the start of s.
+pub fn line_kind(s: &[u8]) -> LineKind
+    ensures { λ r. ⌜ r ≡ lineKind (now (s .entry)) ⌝ }
+{
+    if s.len() < 2 {
+        return LineKind::Other;
+    }
+    if s[1] != b'=' {
+        return LineKind::Other;
+    }
+    match s[0] {
+        b'n' => LineKind::Qubits,
+        b'd' => LineKind::Distance,
+        b'g' => LineKind::Generator,
+        b'x' => LineKind::LogicalX,
+        b'z' => LineKind::LogicalZ,
+        b'w' => LineKind::Claim,
+        _ => LineKind::Other,
+    }
+}
+
+// Whether a row of the family stands at the start of s.
+pub fn begins_row(s: &[u8], family: Family) -> bool
+    ensures { λ r. ⌜ r ≡ begins (bytes (rowKey family)) (now (s .entry)) ⌝ }
+{
+    let kind = line_kind(s);
+    match family {
+        Family::Generator => {
+            let LineKind::Generator = kind else {
+                return false;
+            };
+            true
+        }
+        Family::LogicalX => {
+            let LineKind::LogicalX = kind else {
+                return false;
+            };
+            true
+        }
+        Family::LogicalZ => {
+            let LineKind::LogicalZ = kind else {
+                return false;
+            };
+            true
+        }
+    }
+}
+
+// What bytes are read as.
+pub enum Number {
+    Got(usize),
+    NotANumber,
+}
+
+pub enum Letters {
+    Got(Pauli),
+    NotLetters,
+}
+
+fn read_digit(c: u8) -> Number
+    ensures { λ r. ⌜ numberIn r ≡ readDigit c ⌝ }
+{
+    if c < b'0' || b'9' < c {
+        return Number::NotANumber;
+    }
+    Number::Got((c - b'0') as usize)
+}
+
+// A number of one or two digits, the first not 0.
+pub fn read_number(word: &[u8]) -> Number
+    ensures { λ r. ⌜ numberIn r ≡ upTo mostDigits readNumber (now (word .entry)) ⌝ }
+{
+    if 2 < word.len() {
+        return Number::NotANumber;
+    }
+    if word.len() == 0 {
+        return Number::NotANumber;
+    }
+    let Number::Got(first) = read_digit(word[0]) else {
+        return Number::NotANumber;
+    };
+    if first == 0 {
+        return Number::NotANumber;
+    }
+    if word.len() == 1 {
+        return Number::Got(first);
+    }
+    let Number::Got(second) = read_digit(word[1]) else {
+        return Number::NotANumber;
+    };
+    Number::Got(first * 10 + second)
+}
+
+// Letters, as a row with sign +. The masks grow from the last letter to the first.
+pub fn read_letters(word: &[u8]) -> Letters
+    ensures { λ r. ⌜ rowIn r ≡ upTo mostQubits readLetters (now (word .entry)) ⌝ }
+{
+    if MOST_QUBITS < word.len() {
+        return Letters::NotLetters;
+    }
+    let mut a: u32 = 0;
+    let mut b: u32 = 0;
+    let mut place = word.len();
+    while 0 < place {
+        place -= 1;
+        let LetterRead::Got(letter) = Letter::read(word[place]) else {
+            return Letters::NotLetters;
+        };
+        a = letter.x_bit() + 2 * a;
+        b = letter.z_bit() + 2 * b;
+    }
+    Letters::Got(Pauli::signed(Sign::Plus, a, b))
+}
