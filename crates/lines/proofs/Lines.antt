@@ -152,10 +152,12 @@ module _ (k : LineKind) (digits at low high : ℕ) (outside : Refusal) (s : List
   number-of-other e other =
       e ∙ ap (numberAnswer s) (sym (form ∙ then-stop _ (line-of-other k _ _ _ s (λ f. other (told ∙ f)))))
 
-  pub number-of-kind : r ≡ numberAnswer s (continue (numberBehindKey digits at s) (inRange low high outside))
-      → 0 < kindByte k → kind ≡ k → r ≡ numberAnswer s definition
-  number-of-kind e keyed f =
-      e ∙ ap (λ p. numberAnswer s (continue p (inRange low high outside)))
+  pub number-of-kind : 0 < kindByte k → kind ≡ k → {m : ℕ} → m ≡ digits
+      → r ≡ numberAnswer s (continue (numberBehindKey m at s) (inRange low high outside))
+      → r ≡ numberAnswer s definition
+  number-of-kind keyed f same e =
+      e ∙ ap (λ m. numberAnswer s (continue (numberBehindKey m at s) (inRange low high outside))) same
+      ∙ ap (λ p. numberAnswer s (continue p (inRange low high outside)))
       (sym (line-of-kind k digits readNumber (Refusal.Form at) s keyed (sym told ∙ f)))
       ∙ ap (numberAnswer s) (sym form)
 

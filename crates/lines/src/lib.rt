@@ -41,7 +41,7 @@ fn line_number(s: &[u8], digits: usize) -> Number
     line_parts::read_number(&s[2..digits + 2])
 }
 
-// The letters of a line, n of them from a place on.
+// The letters of a line, n of them from a place on. n is tested first, so that the place behind them is a usize.
 fn line_letters(s: &[u8], from: usize, n: usize) -> Letters
     requires { ⌜ from ≤ 3 ⌝ }
     ensures { λ r. ⌜ rowIn r ≡ valueFrom from n (upTo mostQubits readLetters) (now (s .entry)) ⌝ }

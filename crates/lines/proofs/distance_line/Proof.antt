@@ -1,4 +1,5 @@
 -- The kind, and then the number.
+use mathlib.Core.Path.{refl}
 use native.Mathlib.Omega.{arith}
 use borrow.Author.Needs.{needs}
 use Rattle.code_record.specs.declared.Refusal.{Refusal}
@@ -20,9 +21,10 @@ returns-2 : tie.Need-returns-2
 returns-2 c =
     number-of-kind LineKind.Distance 1 2 1 mostDistance (Refusal.DistanceRange 2) _ (distance-line-form _)
     (c .before .before .before .line-kind .ensures)
-    (c .number-line .ensures)
     (omega arith)
     (c .before .enum-told .given .1)
+    refl
+    (c .number-line .ensures)
 
 pub distance-line-spec : {M : Type 1} → statement M
 distance-line-spec =

@@ -1,15 +1,13 @@
 -- The kind, and then the number, of one or two digits.
 use mathlib.Core.List.{List}
-use mathlib.Core.Path.{ap, _∙_}
 use Prim.Native.Nat.{ℕ}
 use native.Mathlib.Omega.{arith}
 use borrow.Author.Needs.{needs}
 use Rattle.code_record.specs.declared.Refusal.{Refusal}
 use Rattle.code_record.specs.Record.{mostQubits}
-use Rattle.sheet.specs.Reader.{qubitDigits, continue, inRange}
+use Rattle.sheet.specs.Reader.{qubitDigits}
 use Rattle.line_parts.specs.declared.LineKind.{LineKind}
 use Rattle.line_parts.proofs.Keys.{other-kind}
-use Rattle.lines.specs.Answers.{numberBehindKey, numberAnswer}
 use Rattle.lines.proofs.Lines.{digits-few, qubit-line-form, number-of-other, number-of-kind}
 use Rattle.lines.proofs.qubit_line.Statement.{statement}
 use Rattle.lines.proofs.qubit_line.Tie as tie
@@ -34,11 +32,10 @@ returns-2 c =
     let s = s (c .before) in
     number-of-kind LineKind.Qubits (qubitDigits s) 1 2 mostQubits (Refusal.QubitCount 1) s (qubit-line-form s)
     (told .before .before .line-kind .ensures)
-    (c .number-line .ensures
-    ∙ ap (λ m. numberAnswer s (continue (numberBehindKey m 1 s) (inRange 2 mostQubits (Refusal.QubitCount 1))))
-    (c .before .qubit-digits .ensures))
     (omega arith)
     (told .enum-told .given .1)
+    (c .before .qubit-digits .ensures)
+    (c .number-line .ensures)
 
 pub qubit-line-spec : {M : Type 1} → statement M
 qubit-line-spec =
