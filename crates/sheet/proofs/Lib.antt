@@ -11,3 +11,4 @@ pub mod Longest
 pub mod Numbers
 pub mod Untouched
 pub mod WrittenText
+pub mod Laid

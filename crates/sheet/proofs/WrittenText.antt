@@ -3,7 +3,7 @@
 use mathlib.Core.Bool.{Bool, true, false, not}
 use mathlib.Core.List.{List}
 use mathlib.Core.Option.{Option, none, some}
-use mathlib.Core.Path.{_≡_, ap}
+use mathlib.Core.Path.{_≡_, ap, _∙_}
 use Prim.Native.Nat.{ℕ, _≤_, _<_}
 use borrow.Author.Tests.{lt-ltb, le-ltb}
 use lib.ListN.{length}
@@ -12,7 +12,7 @@ use Rattle.code_record.specs.declared.Refusal.{Refusal}
 use Rattle.code_record.specs.declared.Written.{Written}
 use Rattle.code_record.specs.Record.{withinLimits, limitsFault}
 use Rattle.code_record.specs.Refusals.{refuseIf, _then_}
-use Rattle.sheet.specs.Text.{laid, untouched, guarded, roomFault, written}
+use Rattle.sheet.specs.Text.{After, laid, untouched, guarded, roomFault, written, countOf}
 
 -- ---- one check
 
@@ -51,3 +51,13 @@ module _ {fault : Option Refusal} (text buffer : List ℕ) where
       → written fault text buffer ≡ record { answer = Written.Count (length text); buffer = laid text buffer }
   unfolding written guarded _then_ roomFault
   written-whole e h = rw (e, refuseIf-false _ (le-ltb (length buffer) (length text) h))
+
+-- What a call with room counted, and what it left of the buffer.
+module _
+    {after : After Written} (text buffer : List ℕ)
+    (whole : after ≡ record { answer = Written.Count (length text); buffer = laid text buffer }) where
+  pub count-is : {answer : Written} → answer ≡ after .answer → {m : ℕ} → m ≡ countOf answer → m ≡ length text
+  count-is told e = e ∙ ap countOf (told ∙ ap (λ a. a .answer) whole)
+
+  pub content-is : {part : List ℕ} → part ≡ after .buffer → part ≡ laid text buffer
+  content-is told = told ∙ ap (λ a. a .buffer) whole

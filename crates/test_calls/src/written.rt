@@ -43,7 +43,7 @@ fn written(writer: Writer, code: Code, out: &mut [u8]) -> Written {
     match writer {
         Writer::Sheet => writer::write_sheet(code, out),
         Writer::Canonical => canonical::write_canonical(code, out),
-        Writer::Row(row) => writer::write_row(b'h', code.n, row, out),
-        Writer::Number(number) => writer::write_number(b"n=", number, out),
+        Writer::Row(row) => row_writer::write_row(b'h', code.n, row, out),
+        Writer::Number(number) => number_writer::write_number(b"n=", number, out),
     }
 }

@@ -1,4 +1,4 @@
--- The sheet: its length as the sum of its lines', the lines up to each key, and what the call answers.
+-- The sheet: its length as the sum of its lines', and what the call answers.
 use mathlib.Core.Bool.{true, false}
 use mathlib.Core.List.{List, [], _∷_, _++_}
 use mathlib.Core.Path.{_≡_, refl, ap}
@@ -17,7 +17,6 @@ use Rattle.sheet.specs.Writer.{sheetText, writeSheet}
 use Rattle.sheet.proofs.Lengths.{length-line, length-letterText, length-rowLines}
 use Rattle.sheet.proofs.Lengths.{length-generators, length-logicalXs, length-logicalZs}
 use Rattle.sheet.proofs.WrittenText.{limits-broken, limits-kept, written-fault, written-short, written-whole}
-use Rattle.writer.specs.Lines.{numberText, familyText, claimText}
 
 -- ---- its length
 
@@ -39,52 +38,6 @@ module _ (c : Code) (sized : Sized c) (within : withinLimits c ≡ true) where
         length-logicalZs c sized l,
       )
       (omega arith)
-
--- ---- its lines
-
--- The lines up to those of each key.
-abbrev pub toN : Code → List ℕ
-toN c = numberText (110 ∷ 61 ∷ []) (c .n)
-
-abbrev pub toD : Code → List ℕ
-toD c = toN c ++ numberText (100 ∷ 61 ∷ []) (c .d)
-
-abbrev pub toG : Code → List ℕ
-toG c = toD c ++ familyText Generator c (c .r)
-
-abbrev pub toX : Code → List ℕ
-toX c = toG c ++ familyText LogicalX c (pairCount (c .n) (c .r))
-
-abbrev pub toZ : Code → List ℕ
-toZ c = toX c ++ familyText LogicalZ c (pairCount (c .n) (c .r))
-
-abbrev pub toW : Code → List ℕ
-toW c = toZ c ++ claimText (c .n) (c .w)
-
-pub sheet-parts : (c : Code) → toW c ≡ sheetText c
-unfolding sheetText numberText familyText claimText line lineFeed bytes generators logicalXs logicalZs logicalCount
-sheet-parts c = refl
-
--- Each has room where the sheet has.
-pub record Room (c : Code) (m : ℕ) : Type 0 where
-  pub n : length (toN c) ≤ m
-  pub d : length (toD c) ≤ m
-  pub g : length (toG c) ≤ m
-  pub x : length (toX c) ≤ m
-  pub z : length (toZ c) ≤ m
-  pub w : length (toW c) ≤ m
-
-front-fits : (m : ℕ) (text more : List ℕ) → length (text ++ more) ≤ m → length text ≤ m
-front-fits m text more h = omega (arith, length-append text more)
-
-pub room : (c : Code) (m : ℕ) → length (sheetText c) ≤ m → Room c m
-room c m h =
-    let w : length (toW c) ≤ m = omega (arith, ap length (sheet-parts c)) in
-    let z = front-fits m (toZ c) _ w in
-    let x = front-fits m (toX c) _ z in
-    let g = front-fits m (toG c) _ x in
-    let d = front-fits m (toD c) _ g in
-    record { n = front-fits m (toN c) _ d; d = d; g = g; x = x; z = z; w = w }
 
 -- ---- the call
 

@@ -1,145 +1,166 @@
--- The slice holds the lines of the rows that were passed, and `end` is their length; each turn lays the next line
--- behind them.
+-- Behind each call the slice holds the lines of the rows up to there, and `end` is their length: every call lays the
+-- lines of one more key behind what is there.
 use mathlib.Core.List.{List, _++_}
 use mathlib.Core.Path.{_≡_, ap, _∙_}
-use Prim.Native.Nat.{ℕ, _+_, _-_, _≤_}
+use Prim.Native.Nat.{ℕ, _+_, _≤_}
 use native.Mathlib.Omega.{arith}
-use lib.ListN.{length}
-use Rattle.code_record.specs.Record.{keyByte}
-use Rattle.sheet.specs.Text.{laid}
-use Rattle.writer.specs.Lines.{rowLineText, familyText}
-use Rattle.writer.proofs.Laid.{back, length-lent, Holds, holds-nothing, holds-as, holds-more}
-use Rattle.writer.proofs.Lines.{length-rowLineText}
-use Rattle.writer.proofs.Rows.{no-lines, lines-more, lines-room}
+use lib.ListN.{length, take}
 use borrow.Author.Needs.{needs}
+use Rattle.code_record.specs.declared.Code.{Code}
+use Rattle.code_record.specs.Record.{mostQubits, logicalCount, generators, logicalXs, logicalZs}
+use Rattle.code_record.proofs.Limits.{limits}
+use Rattle.sheet.proofs.Laid.{lent, back, Holds, end-within, room-behind, holds-as, holds-more}
+use Rattle.sheet.proofs.WrittenText.{count-is, content-is}
+use Rattle.rows_writer.specs.Rows.{rowsText}
+use Rattle.rows_writer.proofs.Rows.{rows-has-room}
+use Rattle.writer.specs.Parts.{allRowsText}
+use Rattle.writer.proofs.Parts.{front-fits, toG, toX, toZ, rows-parts}
 use Rattle.writer.proofs.row_lines.Statement.{statement}
 use Rattle.writer.proofs.row_lines.Tie as tie
 
-abbrev Inv-loop : tie.InvT-loop
-Inv-loop out₀ code family count n end₀ place₀ out end place =
-    (place ≤ count) × Holds (familyText family code place) out₀ out end
+-- ---- what is known before the first line
 
-abbrev μ-loop : tie.MeasureT-loop
-μ-loop out₀ code family count n end₀ place₀ out end place = count - place
+module _ (c : tie.After-pair-count) where
+  abbrev code : Code
+  code = c .before .before .args .code
 
--- ---- a turn
+  abbrev buffer : List ℕ
+  buffer = c .before .before .args .out .now
 
-abbrev start : tie.In-loop Inv-loop μ-loop → tie.Start Inv-loop μ-loop
-start c = c .before .before .before
+  abbrev k : ℕ
+  k = c .pair-count .result
 
-abbrev place : tie.In-loop Inv-loop μ-loop → ℕ
-place c = c .before .loop .place
+  qubits : (2 ≤ code .n) × (code .n ≤ mostQubits)
+  qubits = limits code (c .before .before .pre .0) .qubits
 
-abbrev end : tie.In-loop Inv-loop μ-loop → ℕ
-end c = c .before .loop .end
+  -- The lines up to each key have room.
+  fitsZ : length (toZ code) ≤ length buffer
+  fitsZ = omega (arith, ap length (rows-parts code), c .before .before .pre .1)
 
-abbrev out : tie.In-loop Inv-loop μ-loop → List ℕ
-out c = c .before .loop .out
+  fitsX : length (toX code) ≤ length buffer
+  fitsX = front-fits (toX code) _ fitsZ
 
--- The next line has room.
-room : (c : tie.In-loop Inv-loop μ-loop) → end c + (start c .args .code .n + 4) ≤ length (start c .args .out .now)
-room c =
-    let a = start c .args in
-    let pre = start c .pre in
-    omega (
-      arith,
-      c .before .loop .inv .1 .count,
-      pre,
-      lines-room (a .family) (a .code) (place c) (a .count) (c .loop-test .taken) (pre .1 .0),
-    )
+  fitsG : length (toG code) ≤ length buffer
+  fitsG = front-fits (toG code) _ fitsX
 
--- ---- behind the line
+  abbrev linesX : List ℕ
+  linesX = rowsText 120 (code .n) (take k (code .x))
 
-abbrev turn : tie.After-row-line Inv-loop μ-loop → tie.In-loop Inv-loop μ-loop
-turn c = c .before .before .before .before
+  abbrev linesZ : List ℕ
+  linesZ = rowsText 122 (code .n) (take k (code .z))
 
-abbrev key : tie.After-row-line Inv-loop μ-loop → ℕ
-key c = c .before .before .key .result
+  moreX : toG code ++ linesX ≡ toX code
+  unfolding logicalXs logicalCount
+  moreX = ap (λ (count : ℕ). toG code ++ rowsText 120 (code .n) (take count (code .x))) (c .pair-count .ensures)
 
-length-line : (c : tie.After-row-line Inv-loop μ-loop) → c .row-line .result ≡ start (turn c) .args .code .n + 4
-length-line c =
-    let a = start (turn c) .args in
-    c .row-line .ensures .0 ∙ length-rowLineText (key c) (a .code .n) (c .before .row .result)
+  moreZ : toX code ++ linesZ ≡ toZ code
+  unfolding logicalZs logicalCount
+  moreZ = ap (λ (count : ℕ). toX code ++ rowsText 122 (code .n) (take count (code .z))) (c .pair-count .ensures)
 
-text-is : (c : tie.After-row-line Inv-loop μ-loop)
-    → let a = start (turn c) .args in
-    familyText (a .family) (a .code) (place (turn c)) ++ rowLineText (key c) (a .code .n) (c .before .row .result)
-    ≡ familyText (a .family) (a .code) (place (turn c) + 1)
-text-is c =
-    let a = start (turn c) .args in
-    let i = place (turn c) in
-    ap (λ byte. familyText (a .family) (a .code) i ++ rowLineText byte (a .code .n) (c .before .row .result))
-    (c .before .before .key .ensures)
-    ∙ ap (λ row. familyText (a .family) (a .code) i ++ rowLineText (keyByte (a .family)) (a .code .n) row)
-    (c .before .row .ensures)
-    ∙ lines-more (a .family) (a .code) i (omega (arith, start (turn c) .pre .1))
+-- ---- behind each call
 
-held : (c : tie.After-row-line Inv-loop μ-loop)
-    → let a = start (turn c) .args in
-    Holds (familyText (a .family) (a .code) (place (turn c) + 1)) (a .out .now)
-    (back (end (turn c)) (out (turn c)) (c .row-line .last .0))
-    (end (turn c) + c .row-line .result)
-held c =
-    let call = c .row-line in
-    holds-as (holds-more (turn c .before .loop .inv .1) _ (call .ensures .0) (call .ensures .1) (call .kept .0))
-    (text-is c)
+module _ (c : tie.After-count-of) where
+  abbrev start : tie.After-pair-count
+  start = c .before .before .before .before .before .before .before .before
+
+  abbrev outG : List ℕ
+  outG = c .before .before .before .write-rows .last .1 .1 .1 .1 .0
+
+  abbrev endG : ℕ
+  endG = c .count-of .result
+
+  behindG : Holds (toG (code start)) (buffer start) outG endG
+  unfolding generators
+  behindG =
+      let call = c .before .before .before .write-rows in
+      let whole = rows-has-room 103 (code start .n) (generators (code start)) (buffer start) (qubits start .0)
+      (qubits start .1) (fitsG start) in
+      record {
+        content = content-is (toG (code start)) (buffer start) whole (call .ensures .1);
+        count = count-is (toG (code start)) (buffer start) whole (call .ensures .0) (c .count-of .ensures);
+        size = call .kept .1 .1 .1 .1 .0;
+      }
+
+  insideG : endG ≤ length outG
+  insideG = end-within behindG (fitsG start)
+
+module _ (c : tie.After-count-of2) where
+  abbrev atG : tie.After-count-of
+  atG = c .before .before .before .before .before
+
+  abbrev sX : tie.After-pair-count
+  sX = start atG
+
+  abbrev outX : List ℕ
+  outX = back (endG atG) (outG atG) (c .before .before .before .write-logicals .last .1 .1 .1 .1 .0)
+
+  abbrev endX : ℕ
+  endX = endG atG + c .count-of2 .result
+
+  behindX : Holds (toX (code sX)) (buffer sX) outX endX
+  behindX =
+      let call = c .before .before .before .write-logicals in
+      let part = lent (endG atG) (outG atG) in
+      let whole = rows-has-room 120 (code sX .n) (take (k sX) (code sX .x)) part (qubits sX .0) (qubits sX .1)
+      (room-behind (behindG atG) (linesX sX) (omega (arith, fitsX sX, ap length (moreX sX)))) in
+      holds-as
+      (holds-more (behindG atG) (linesX sX) (count-is (linesX sX) part whole (call .ensures .0) (c .count-of2 .ensures))
+      (content-is (linesX sX) part whole (call .ensures .1)) (call .kept .1 .1 .1 .1 .0))
+      (moreX sX)
+
+  insideX : endX ≤ length outX
+  insideX = end-within behindX (fitsX sX)
+
+module _ (c : tie.After-count-of3) where
+  abbrev atX : tie.After-count-of2
+  atX = c .before .before .before .before .before
+
+  abbrev s : tie.After-pair-count
+  s = sX atX
+
+  behindZ : Holds (allRowsText (code s)) (buffer s)
+      (back (endX atX) (outX atX) (c .before .before .before .write-logicals2 .last .1 .1 .1 .1 .0))
+      (endX atX + c .count-of3 .result)
+  behindZ =
+      let call = c .before .before .before .write-logicals2 in
+      let part = lent (endX atX) (outX atX) in
+      let whole = rows-has-room 122 (code s .n) (take (k s) (code s .z)) part (qubits s .0) (qubits s .1)
+      (room-behind (behindX atX) (linesZ s) (omega (arith, fitsZ s, ap length (moreZ s)))) in
+      holds-as
+      (holds-more (behindX atX) (linesZ s) (count-is (linesZ s) part whole (call .ensures .0) (c .count-of3 .ensures))
+      (content-is (linesZ s) part whole (call .ensures .1)) (call .kept .1 .1 .1 .1 .0))
+      (moreZ s ∙ rows-parts (code s))
 
 -- ---- the needs
 
-loop-holds : tie.Need-loop-holds Inv-loop μ-loop
-loop-holds c =
-    let a = c .before .args in
-    (search needs, holds-as (holds-nothing (a .out .now)) (no-lines (a .family) (a .code)))
+add-end : tie.Need-add-end
+add-end c = record { fits = omega (arith, behindX c .count, fitsX (sX c), sX c .before .before .good .0) }
 
-sub-row-line : tie.Need-sub-row-line Inv-loop μ-loop
-sub-row-line c = omega (arith, room c, c .before .loop .inv .1 .size)
+add-end-2 : tie.Need-add-end-2
+add-end-2 c =
+    record { fits = omega (arith, behindZ c .count, s c .before .before .pre .1, s c .before .before .good .0) }
 
-part-row-line-start : tie.Need-part-row-line-start Inv-loop μ-loop
-part-row-line-start c = omega (arith, room c, c .before .loop .inv .1 .size)
-
-row-line-requires : tie.Need-row-line-requires Inv-loop μ-loop
-row-line-requires c κs =
-    let turn = c .before .before .before in
-    let a = start turn .args in
-    let line = length-rowLineText (c .before .key .result) (a .code .n) (c .row .result) in
-    (search needs, omega (arith, room turn, turn .before .loop .inv .1 .size, line, length-lent (end turn) (out turn)))
-
-add-end : tie.Need-add-end Inv-loop μ-loop
-add-end c =
-    let at = c .before .before in
-    omega (arith, room (turn at), length-line at, start (turn at) .good .0)
-
-loop-again : tie.Need-loop-again Inv-loop μ-loop
-loop-again c = (search needs, held (c .before .before))
-
-same-length : tie.Need-same-length Inv-loop μ-loop
-same-length c = c .before .loop .inv .1 .size
-
-returns : tie.Need-returns Inv-loop μ-loop
-returns c =
-    let a = c .before .before .before .args in
-    let l = c .before .loop in
-    let all : l .place ≡ a .count = omega arith in (
-      l .inv .1 .count ∙ ap (λ count. length (familyText (a .family) (a .code) count)) all,
-      l .inv .1 .content ∙ ap (λ count. laid (familyText (a .family) (a .code) count) (a .out .now)) all,
-    )
+returns : tie.Need-returns
+returns c = (behindZ c .count, behindZ c .content)
 
 pub row-lines-spec : {M : Type 1} → statement M
 row-lines-spec =
     tie.close
     (tie.spec
-    Inv-loop
-    μ-loop
-    loop-holds
-    sub-row-line
-    part-row-line-start
+    (λ c κs. search needs)
+    (λ c κs. search needs)
+    (λ c κs. search needs)
+    insideG
+    insideG
     (λ c. search needs)
     (λ c κs. search needs)
     (λ c κs. search needs)
-    row-line-requires
     add-end
+    insideX
+    insideX
     (λ c. search needs)
-    (λ c. search needs)
-    loop-again
-    same-length
+    (λ c κs. search needs)
+    (λ c κs. search needs)
+    add-end-2
+    (λ c. behindZ c .size)
     returns)

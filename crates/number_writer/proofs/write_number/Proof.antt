@@ -1,0 +1,74 @@
+-- The call for one number answers as `writeNumber` says: 17 where the key or the line has no room, or the line.
+use mathlib.Core.Path.{ap, sym, _∙_}
+use Prim.Native.Nat.{_<_, _≤_}
+use native.Mathlib.Omega.{arith}
+use lib.ListN.{length}
+use Rattle.code_record.specs.declared.Written.{Written}
+use Rattle.sheet.specs.Text.{untouched}
+use Rattle.number_writer.specs.Lines.{numberText}
+use Rattle.number_writer.proofs.Numbers.{length-decimal-le, length-numberText, number-too-short, number-has-room}
+use borrow.Author.Needs.{needs}
+use Rattle.number_writer.proofs.write_number.Statement.{statement}
+use Rattle.number_writer.proofs.write_number.Tie as tie
+
+-- ---- with room
+
+abbrev start : tie.Else2 → tie.Start
+start c = c .before .before .before .before .before
+
+room : (c : tie.Else2)
+    → length (numberText (start c .args .key .now) (start c .args .m)) ≤ length (start c .args .out .now)
+room c =
+    let a = start c .args in
+    omega (arith, length-numberText (a .key .now) (a .m), c .if2 .left, c .before .digit-count .ensures)
+
+-- ---- the needs
+
+returns : tie.Need-returns
+unfolding untouched
+returns c =
+    let a = c .before .before .before .args in
+    let short : length (a .out .now) < length (numberText (a .key .now) (a .m)) =
+    omega (arith, length-numberText (a .key .now) (a .m), c .if1 .taken) in
+    let e = sym (number-too-short (a .key .now) (a .m) (a .out .now) short) in
+    (ap (λ after. after .answer) e, ap (λ after. after .buffer) e)
+
+add-if2 : tie.Need-add-if2
+add-if2 c =
+    let s = c .before .before .before .before in
+    record { fits = omega (arith, length-decimal-le (s .args .m), c .digit-count .ensures, s .good) }
+
+returns-2 : tie.Need-returns-2
+unfolding untouched
+returns-2 c =
+    let a = c .before .before .before .before .before .args in
+    let short : length (a .out .now) < length (numberText (a .key .now) (a .m)) =
+    omega (arith, length-numberText (a .key .now) (a .m), c .if2 .taken, c .before .digit-count .ensures) in
+    let e = sym (number-too-short (a .key .now) (a .m) (a .out .now) short) in
+    (ap (λ after. after .answer) e, ap (λ after. after .buffer) e)
+
+number-line-requires : tie.Need-number-line-requires
+number-line-requires c κs = room (c .before)
+
+returns-3 : tie.Need-returns-3
+returns-3 c =
+    let line = c .before .before in
+    let behind = line .before .before in
+    let a = start behind .args in
+    let e = sym (number-has-room (a .key .now) (a .m) (a .out .now) (room behind)) in (
+      ap Written.Count (line .number-line .ensures .0) ∙ ap (λ after. after .answer) e,
+      line .number-line .ensures .1 ∙ ap (λ after. after .buffer) e,
+    )
+
+pub write-number-spec : {M : Type 1} → statement M
+write-number-spec =
+    tie.close
+    (tie.spec
+    returns
+    (λ c. search needs)
+    (λ c κs. search needs)
+    add-if2
+    returns-2
+    number-line-requires
+    (λ c. search needs)
+    returns-3)

@@ -1,0 +1,140 @@
+-- The lines of one row, as the code writes them: the first bytes, the letters behind them one by one, the line feed.
+-- And what the calls answer.
+use mathlib.Core.Bool.{false, not}
+use mathlib.Core.List.{List, [], _∷_, _++_}
+use mathlib.Core.Option.{none}
+use mathlib.Core.Path.{_≡_, refl, ap, sym, _∙_}
+use Prim.Native.Nat.{ℕ, _+_, _≤_, _<_}
+use Prim.Native.String.{String}
+use native.Mathlib.Omega.{arith}
+use lib.ListN.{length, take, set, getD, length-append, List·getD-map}
+use lib.Seq.{take-all, sets}
+use Rattle.pauli.specs.declared.Letter.the-variants.{I}
+use Rattle.pauli.specs.declared.Pauli.{Pauli}
+use Rattle.pauli.specs.Letters.{letterByte, letterText, letterOn, lettersOf, rowText, signByte, signOf}
+use Rattle.pauli.specs.Lists.{bytes}
+use Rattle.pauli.proofs.Letters.{letters-at}
+use Rattle.code_record.specs.declared.Refusal.{Refusal}
+use Rattle.code_record.specs.declared.Written.{Written}
+use Rattle.code_record.specs.Record.{mostQubits, between}
+use Rattle.code_record.proofs.Limits.{bounds-between}
+use Rattle.sheet.specs.Text.{laid, line, lineFeed, untouched, written}
+use Rattle.sheet.proofs.Laid.{length-taken, byte-laid, sets-laid, set-laid, lent, back, back-laid}
+use Rattle.sheet.proofs.Lengths.{length-letterText, length-rowText}
+use Rattle.sheet.proofs.WrittenText.{refuseIf-true, refuseIf-false, written-fault, written-short, written-whole}
+use Rattle.row_writer.specs.Lines.{lettersEnd, rowLineText, writeRow, lettersLineText, writeLetters, qubitFault}
+
+-- ---- letters
+
+letter-at : (n place : ℕ) (P : Pauli) → place < n
+    → getD (letterText n P) place (letterByte I) ≡ letterByte (letterOn place P)
+unfolding letterText
+letter-at n place P h = List·getD-map letterByte (lettersOf n P) place I ∙ ap letterByte (letters-at n place P h)
+
+-- One more letter of n.
+pub letter-laid : (n place : ℕ) (P : Pauli) (buffer : List ℕ) → place < n → n ≤ length buffer
+    → set (laid (take place (letterText n P)) buffer) place (letterByte (letterOn place P))
+    ≡ laid (take (place + 1) (letterText n P)) buffer
+letter-laid n place P buffer h room =
+    ap (λ (x : ℕ). set (laid (take place (letterText n P)) buffer) place x) (sym (letter-at n place P h))
+    ∙ byte-laid (letterText n P) buffer (omega (arith, length-letterText n P)) place (letterByte I)
+    (omega (arith, length-letterText n P))
+
+pub length-letters-laid : (n place : ℕ) (P : Pauli) (buffer : List ℕ) → place ≤ n → n ≤ length buffer
+    → length (laid (take place (letterText n P)) buffer) ≡ length buffer
+length-letters-laid n place P buffer h room =
+    length-taken (letterText n P) buffer (omega (arith, length-letterText n P)) place
+    (omega (arith, length-letterText n P))
+
+pub letters-whole : (n place : ℕ) (P : Pauli) → n ≤ place → take place (letterText n P) ≡ letterText n P
+letters-whole n place P h = take-all place (letterText n P) (omega (arith, length-letterText n P))
+
+-- All letters, and the line feed behind them.
+pub letters-ended : (n place : ℕ) (P : Pauli) (buffer : List ℕ) → n ≤ place → n < length buffer
+    → set (laid (take place (letterText n P)) buffer) n 10 ≡ laid (lettersEnd n P) buffer
+unfolding lettersEnd lineFeed
+letters-ended n place P buffer all room =
+    ap (λ (text : List ℕ). set (laid text buffer) n 10) (letters-whole n place P all)
+    ∙ set-laid (letterText n P) buffer n 10 (sym (length-letterText n P)) room
+
+-- ---- lines
+
+-- A line's first bytes are stored, then the letters and the line feed are laid behind them.
+pub front-laid : (front buffer part : List ℕ) (n : ℕ) (P : Pauli) → length front ≤ length buffer
+    → part ≡ laid (lettersEnd n P) (lent (length front) (sets buffer 0 front))
+    → back (length front) (sets buffer 0 front) part ≡ laid (front ++ lettersEnd n P) buffer
+front-laid front buffer part n P room q =
+    back-laid front (lettersEnd n P) buffer (sets buffer 0 front) part (length front) (sets-laid front buffer room) refl
+    q
+
+pub row-text : (key n : ℕ) (P : Pauli) → rowLineText key n P ≡ key ∷ 61 ∷ signByte (signOf P) ∷ lettersEnd n P
+unfolding rowLineText lettersEnd rowText
+row-text key n P = refl
+
+pub letters-text : (key n : ℕ) (P : Pauli) → lettersLineText key n P ≡ key ∷ 61 ∷ lettersEnd n P
+unfolding lettersLineText
+letters-text key n P = refl
+
+-- The text of a key is its byte and `=`.
+module _ (text : String) (key n : ℕ) (P : Pauli) (keyed : bytes text ≡ key ∷ 61 ∷ []) where
+  pub row-keyed : rowLineText key n P ≡ line text (rowText n P)
+  unfolding rowLineText line
+  row-keyed = ap (λ (front : List ℕ). front ++ rowText n P ++ lineFeed ∷ []) (sym keyed)
+
+  pub letters-keyed : lettersLineText key n P ≡ line text (letterText n P)
+  unfolding lettersLineText lettersEnd line
+  letters-keyed = ap (λ (front : List ℕ). front ++ letterText n P ++ lineFeed ∷ []) (sym keyed)
+
+pub length-rowLineText : (key n : ℕ) (P : Pauli) → length (rowLineText key n P) ≡ n + 4
+unfolding rowLineText
+length-rowLineText key n P = simp length-append (omega (arith, length-rowText n P))
+
+pub length-lettersLineText : (key n : ℕ) (P : Pauli) → length (lettersLineText key n P) ≡ n + 3
+unfolding lettersLineText lettersEnd
+length-lettersLineText key n P = simp length-append (omega (arith, length-letterText n P))
+
+-- ---- the calls
+
+pub qubits-within : (n : ℕ) → 2 ≤ n → n ≤ mostQubits → qubitFault n ≡ none
+unfolding qubitFault
+qubits-within n low high = refuseIf-false _ (ap not (bounds-between 2 mostQubits n low high))
+
+-- What a caller with room is answered.
+module _ (key n : ℕ) (P : Pauli) (buffer : List ℕ) (low : 2 ≤ n) (high : n ≤ mostQubits) where
+  pub row-has-room : length (rowLineText key n P) ≤ length buffer → writeRow key n P buffer
+      ≡ record { answer = Written.Count (length (rowLineText key n P)); buffer = laid (rowLineText key n P) buffer }
+  unfolding writeRow
+  row-has-room = written-whole _ _ (qubits-within n low high)
+
+  pub letters-has-room : length (lettersLineText key n P) ≤ length buffer → writeLetters key n P buffer
+      ≡ record {
+        answer = Written.Count (length (lettersLineText key n P));
+        buffer = laid (lettersLineText key n P) buffer;
+      }
+  unfolding writeLetters
+  letters-has-room = written-whole _ _ (qubits-within n low high)
+
+-- What the two calls have to answer, as their code tells it.
+module _ (n : ℕ) (text buffer : List ℕ) where
+  abbrev Answers : Written → List ℕ → Type 0
+  Answers answer after =
+      (answer ≡ (written (qubitFault n) text buffer) .answer) × (after ≡ (written (qubitFault n) text buffer) .buffer)
+
+  pub outside-limits : between 2 mostQubits n ≡ false → Answers (Written.Refused Refusal.RecordLimits) buffer
+  unfolding untouched qubitFault
+  outside-limits h =
+      let e = sym (written-fault text buffer (refuseIf-true _ (ap not h))) in
+      (ap (λ after. after .answer) e, ap (λ after. after .buffer) e)
+
+  module _ (low : 2 ≤ n) (high : n ≤ mostQubits) where
+    pub too-short : length buffer < length text → Answers (Written.Refused Refusal.ShortBuffer) buffer
+    unfolding untouched
+    too-short h =
+        let e = sym (written-short text buffer (qubits-within n low high) h) in
+        (ap (λ after. after .answer) e, ap (λ after. after .buffer) e)
+
+    pub has-room : length text ≤ length buffer → {count : ℕ} {after : List ℕ} → count ≡ length text
+        → after ≡ laid text buffer → Answers (Written.Count count) after
+    has-room h count content =
+        let e = sym (written-whole text buffer (qubits-within n low high) h) in
+        (ap Written.Count count ∙ ap (λ after. after .answer) e, content ∙ ap (λ after. after .buffer) e)

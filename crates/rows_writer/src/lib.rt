@@ -1,0 +1,99 @@
+// The writer of the lines of several rows with one key: the generators of a sheet, its logicals of each kind, the
+// canonical generators.
+use code_record::GENERATOR_ROOM;
+use code_record::LOGICAL_ROOM;
+use code_record::Refusal;
+use code_record::Written;
+use pauli::Pauli;
+ghost use mathlib.Core.Path.{_≡_};
+ghost use Prim.Native.Nat.{_≤_, min};
+ghost use lib.ListN.{length, take};
+ghost use Rattle.code_record.specs.Record.{generatorRoom, mostQubits, filled};
+ghost use Rattle.sheet.specs.Text.{laid};
+ghost use Rattle.rows_writer.specs.Rows.{rowsText, writeRows};
+
+// How many rows there are in an array with so many places, where `count` are asked for.
+fn rows_there(count: usize, places: usize) -> usize
+    ensures { λ r. ⌜ r ≡ min count places ⌝ }
+{
+    if count < places { count } else { places }
+}
+
+// The lines of the first rows, where there is room for them.
+fn row_lines(
+    out: &mut [u8],
+    key: u8,
+    n: usize,
+    count: usize,
+    rows: [Pauli; GENERATOR_ROOM],
+) -> usize
+    requires { ⌜ 2 ≤ n ⌝ }
+    requires { ⌜ n ≤ mostQubits ⌝ }
+    requires { ⌜ count ≤ generatorRoom ⌝ }
+    requires { ⌜ length (rowsText key n (take count rows)) ≤ length (now out) ⌝ }
+    ensures { λ r. ⌜ r ≡ length (rowsText key n (take count rows)) ⌝ }
+    ensures { λ _. ⌜ now (out .exit) ≡ laid (rowsText key n (take count rows)) (now (out .entry)) ⌝ }
+{
+    let mut end: usize = 0;
+    let mut place: usize = 0;
+    while place < count {
+        end += row_writer::count_of(row_writer::write_row(key, n, rows[place], &mut out[end..]));
+        place += 1;
+    }
+    end
+}
+
+// The lines of the first `count` rows of an array, or of all where it has fewer, into an output buffer: 15 where n is
+// not 2 to 24, then 17 where the buffer is shorter than the lines, then the lines' bytes and their count. Each line is
+// that of `write_row`.
+pub fn write_rows(
+    key: u8,
+    n: usize,
+    count: usize,
+    rows: [Pauli; GENERATOR_ROOM],
+    out: &mut [u8],
+) -> Written
+    ensures { λ r. ⌜ r ≡ (writeRows key n (take count rows) (now (out .entry))) .answer ⌝ }
+    ensures { λ _. ⌜ now (out .exit) ≡ (writeRows key n (take count rows) (now (out .entry))) .buffer ⌝ }
+{
+    if n < 2 {
+        return Written::Refused(Refusal::RecordLimits);
+    }
+    if n > code_record::MOST_QUBITS {
+        return Written::Refused(Refusal::RecordLimits);
+    }
+    let there = rows_there(count, GENERATOR_ROOM);
+    if out.len() < there * (n + 4) {
+        return Written::Refused(Refusal::ShortBuffer);
+    }
+    Written::Count(row_lines(out, key, n, there, rows))
+}
+
+// The logicals of one kind in an array as long as that of the generators, with +I behind them.
+fn widened(rows: [Pauli; LOGICAL_ROOM]) -> [Pauli; GENERATOR_ROOM]
+    ensures { λ r. ⌜ r ≡ filled generatorRoom rows ⌝ }
+{
+    let one = Pauli::identity();
+    let mut wide = [one; GENERATOR_ROOM];
+    for place in 0..LOGICAL_ROOM {
+        let row = rows[place];
+        wide[place] = row;
+    }
+    wide
+}
+
+// The same of an array as long as that of the logicals of one kind.
+pub fn write_logicals(
+    key: u8,
+    n: usize,
+    count: usize,
+    rows: [Pauli; LOGICAL_ROOM],
+    out: &mut [u8],
+) -> Written
+    ensures { λ r. ⌜ r ≡ (writeRows key n (take count rows) (now (out .entry))) .answer ⌝ }
+    ensures { λ _. ⌜ now (out .exit) ≡ (writeRows key n (take count rows) (now (out .entry))) .buffer ⌝ }
+{
+    let there = rows_there(count, LOGICAL_ROOM);
+    let wide = widened(rows);
+    write_rows(key, n, there, wide, out)
+}
