@@ -2,7 +2,6 @@
 use code_record::Code;
 use code_record::Written;
 use elimination::Checked;
-use elimination::ReducedRows;
 ghost use mathlib.Core.Path.{_≡_};
 ghost use Rattle.stabilizer.specs.Canonical.{writeCanonical};
 

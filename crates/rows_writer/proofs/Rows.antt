@@ -1,6 +1,6 @@
 -- The lines of rows, one behind the other: their text, row by row, and their length. And what the call answers.
 use mathlib.Core.List.{List, [], _∷_, _++_, flatMap, append-nil, append-assoc}
-use mathlib.Core.Path.{_≡_, refl, ap, sym, _∙_}
+use mathlib.Core.Path.{_≡_, ap, sym, _∙_}
 use Prim.Native.Nat.{ℕ, _+_, _*_, _≤_, _<_, min}
 use Prim.Native.String.{String}
 use native.Mathlib.Decide.{decLe}
@@ -38,7 +38,7 @@ module _ (key n : ℕ) where
       ap (λ (s : List ℕ). rowLineText key n Q ++ s) (rows-more rows P)
       ∙ sym (append-assoc (rowLineText key n Q) (rowsText key n rows) (rowLineText key n P))
 
-  pub length-rowsText : (rows : List Pauli) → length (rowsText key n rows) ≡ length rows * (n + 4)
+  length-rowsText : (rows : List Pauli) → length (rowsText key n rows) ≡ length rows * (n + 4)
   unfolding rowsText flatMap
   length-rowsText [] = omega arith
   length-rowsText (P ∷ rows) =
@@ -53,7 +53,7 @@ module _ (key n : ℕ) where
         sym (rows-more (take place rows) _)
         ∙ ap (rowsText key n) (sym (take-suc rows place identity h) ∙ ap (λ (k : ℕ). take k rows) (sym (add-one place)))
 
-    pub length-first : (count : ℕ) → count ≤ length rows → length (rowsText key n (take count rows)) ≡ count * (n + 4)
+    length-first : (count : ℕ) → count ≤ length rows → length (rowsText key n (take count rows)) ≡ count * (n + 4)
     length-first count h =
         length-rowsText (take count rows) ∙ ap (λ (k : ℕ). k * (n + 4)) (length-take-le count rows h)
 

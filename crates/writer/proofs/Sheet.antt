@@ -1,18 +1,17 @@
 -- The sheet: its length as the sum of its lines', and what the call answers.
 use mathlib.Core.Bool.{true, false}
-use mathlib.Core.List.{List, [], _∷_, _++_}
-use mathlib.Core.Path.{_≡_, refl, ap}
+use mathlib.Core.List.{List}
+use mathlib.Core.Path.{_≡_}
 use Prim.Native.Nat.{ℕ, _+_, _*_, _≤_, _<_}
 use native.Mathlib.Omega.{arith}
 use lib.ListN.{length, length-append}
 use Rattle.pauli.specs.Lists.{bytes}
 use Rattle.code_record.specs.declared.Code.{Code}
-use Rattle.code_record.specs.declared.Family.the-variants.{Generator, LogicalX, LogicalZ}
 use Rattle.code_record.specs.declared.Refusal.{Refusal}
 use Rattle.code_record.specs.declared.Written.{Written}
-use Rattle.code_record.specs.Record.{pairCount, logicalCount, generators, logicalXs, logicalZs, withinLimits, Sized}
+use Rattle.code_record.specs.Record.{pairCount, logicalCount, withinLimits, Sized}
 use Rattle.code_record.proofs.Limits.{limits}
-use Rattle.sheet.specs.Text.{line, lineFeed, decimal, laid, untouched}
+use Rattle.sheet.specs.Text.{decimal, laid, untouched}
 use Rattle.sheet.specs.Writer.{sheetText, writeSheet}
 use Rattle.sheet.proofs.Lengths.{length-line, length-letterText, length-rowLines}
 use Rattle.sheet.proofs.Lengths.{length-generators, length-logicalXs, length-logicalZs}

@@ -1,11 +1,10 @@
 -- Behind each call the slice holds the lines up to there, and `end` is their length.
 use mathlib.Core.List.{List, [], _∷_, _++_}
-use mathlib.Core.Path.{_≡_, ap, _∙_}
-use Prim.Native.Nat.{ℕ, _+_, _<_, _≤_, _^_}
+use mathlib.Core.Path.{ap}
+use Prim.Native.Nat.{ℕ, _+_, _≤_}
 use native.Mathlib.Omega.{arith}
 use lib.ListN.{length}
 use borrow.Author.Needs.{needs}
-use Rattle.sheet.specs.Text.{laid}
 use Rattle.sheet.proofs.Laid.{lent, back, Holds, end-within, room-behind, holds-as, holds-more}
 use Rattle.sheet.proofs.WrittenText.{count-is, content-is}
 use Rattle.number_writer.specs.Lines.{numberText}
