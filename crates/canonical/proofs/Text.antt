@@ -19,10 +19,10 @@ use Rattle.sheet.proofs.WrittenText.{written-short, written-whole}
 use Rattle.stabilizer.specs.Canonical.{canonicalGenerators, canonicalText, writeCanonical}
 use Rattle.stabilizer.specs.Checks.{groupFault}
 use Rattle.stabilizer.proofs.Independent.{canonical-length-le}
-use Rattle.elimination.specs.declared.ReducedRows.{ReducedRows}
-use Rattle.elimination.specs.Answers.{rowsIn, reducedOf}
-use Rattle.elimination.proofs.Rows.{rows-of}
-use Rattle.elimination.proofs.Signs.{passed-within}
+use Rattle.reduced_rows.specs.declared.ReducedRows.{ReducedRows}
+use Rattle.reduced_rows.specs.Rows.{rowsIn, reducedOf}
+use Rattle.reduced_rows.proofs.Rows.{rows-of}
+use Rattle.elimination.proofs.Passed.{passed-within}
 
 module _ (c : Code) (passes : none ≡ groupFault c) where
   pub qubits-few : (2 ≤ c .n) × (c .n ≤ mostQubits) × (c .r < mostQubits)

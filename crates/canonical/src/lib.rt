@@ -3,7 +3,7 @@ use code_record::Code;
 use code_record::Refusal;
 use code_record::Written;
 use elimination::Checked;
-use elimination::ReducedRows;
+use reduced_rows::ReducedRows;
 ghost use mathlib.Core.Path.{_≡_};
 ghost use Prim.Native.Nat.{_≤_};
 ghost use lib.ListN.{length};
@@ -12,7 +12,7 @@ ghost use Rattle.code_record.specs.declared.Written.{Written as WrittenAnswer};
 ghost use Rattle.sheet.specs.Text.{laid};
 ghost use Rattle.sheet.specs.Writer.{rowLines};
 ghost use Rattle.stabilizer.specs.Canonical.{writeCanonical};
-ghost use Rattle.elimination.specs.Answers.{rowsIn};
+ghost use Rattle.reduced_rows.specs.Rows.{rowsIn};
 
 // The lines of the rows, where there is room for them.
 fn canonical_lines(out: &mut [u8], n: usize, reduced: ReducedRows) -> Written

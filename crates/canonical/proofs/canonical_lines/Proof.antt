@@ -16,8 +16,8 @@ use Rattle.writer.specs.Lines.{rowLineText}
 use Rattle.writer.proofs.Laid.{back, lent, length-lent, Holds, holds-nothing, holds-as, holds-more}
 use Rattle.writer.proofs.Lines.{length-rowLineText, row-has-room}
 use Rattle.writer.proofs.Rows.{first-more, first-room}
-use Rattle.elimination.specs.Answers.{rowsIn}
-use Rattle.elimination.proofs.ArrayLength.{room-of}
+use Rattle.reduced_rows.specs.Rows.{rowsIn}
+use Rattle.reduced_rows.proofs.ArrayLength.{room-of}
 use borrow.Author.Needs.{needs}
 use Rattle.canonical.proofs.canonical_lines.Statement.{statement}
 use Rattle.canonical.proofs.canonical_lines.Tie as tie

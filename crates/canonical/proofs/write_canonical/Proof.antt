@@ -14,9 +14,9 @@ use Rattle.sheet.specs.Writer.{rowLines}
 use Rattle.sheet.proofs.WrittenText.{written-fault}
 use Rattle.stabilizer.specs.Canonical.{canonicalGenerators, canonicalText, writeCanonical}
 use Rattle.stabilizer.specs.Checks.{groupFault}
-use Rattle.elimination.specs.declared.ReducedRows.{ReducedRows}
-use Rattle.elimination.specs.Answers.{rowsIn, reducedOf}
-use Rattle.elimination.proofs.Signs.{fault-told, rows-told}
+use Rattle.reduced_rows.specs.declared.ReducedRows.{ReducedRows}
+use Rattle.reduced_rows.specs.Rows.{rowsIn, reducedOf}
+use Rattle.elimination.proofs.Passed.{fault-told, rows-told}
 use Rattle.canonical.proofs.Text.{qubits-few, too-short, has-room, text-is, count-few, length-is}
 use Rattle.canonical.proofs.write_canonical.Statement.{statement}
 use Rattle.canonical.proofs.write_canonical.Tie as tie
