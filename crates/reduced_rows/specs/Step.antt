@@ -12,7 +12,8 @@ use Rattle.reduced_rows.specs.declared.ReducedRows.{ReducedRows}
 use Rattle.reduced_rows.specs.declared.Kind.{Kind}
 use Rattle.reduced_rows.specs.Rows.{rowsIn, reducedOf}
 
--- What a row is, from what is left of it.
+-- What a row is to the rows, from what they leave of it. A phase of i or -i, which rows that commute never leave,
+-- counts as +.
 unfoldable pub kindOf : Pauli → Kind
 kindOf Q =
     cond (sameMasks Q identity) (cond (samePauli minusIdentity Q) Kind.MinusIdentity Kind.PlusIdentity) Kind.Independent

@@ -60,7 +60,7 @@ impl ReducedRows {
         is_identity(self.reduce(p))
     }
 
-    // What the rows tell of it.
+    // What it is to the rows.
     pub fn kind_of(self, p: Pauli) -> Kind
         ensures { λ r. ⌜ r ≡ kindOf (reduced (self .n) (rowsIn self) p) ⌝ }
     {
