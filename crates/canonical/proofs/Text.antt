@@ -16,10 +16,10 @@ use Rattle.rows_writer.specs.Rows.{rowsText, writeRows}
 use Rattle.rows_writer.proofs.Rows.{rows-keyed}
 use Rattle.stabilizer.specs.Canonical.{canonicalGenerators, canonicalText, writeCanonical}
 use Rattle.stabilizer.specs.Checks.{groupFault}
-use Rattle.elimination.specs.declared.ReducedRows.{ReducedRows}
-use Rattle.elimination.specs.Answers.{rowsIn, reducedOf}
-use Rattle.elimination.proofs.Rows.{rows-of}
-use Rattle.elimination.proofs.Signs.{passed-within}
+use Rattle.reduced_rows.specs.declared.ReducedRows.{ReducedRows}
+use Rattle.reduced_rows.specs.Rows.{rowsIn, reducedOf}
+use Rattle.reduced_rows.proofs.Rows.{rows-of}
+use Rattle.elimination.proofs.Passed.{passed-within}
 
 module _
     (c : Code) (passes : none ≡ groupFault c) (hs : ReducedRows)

@@ -9,11 +9,11 @@ use Rattle.code_record.specs.Record.{generators, generatorsAt, withinLimits, li
 use Rattle.code_record.specs.Refusals.{refuseIf, _then_}
 use Rattle.stabilizer.specs.Canonical.{canonicalGenerators}
 use Rattle.stabilizer.specs.Checks.{firstFault, clash, dependence, generatorFault, groupFault}
+use Rattle.reduced_rows.specs.declared.ReducedRows.{ReducedRows}
+use Rattle.reduced_rows.specs.Rows.{reducedOf}
 use Rattle.elimination.specs.declared.Checked.{Checked}
 use Rattle.elimination.specs.declared.Elimination.{Elimination}
-use Rattle.elimination.specs.declared.ReducedRows.{ReducedRows}
-use Rattle.elimination.specs.Answers.{reducedOf, checkedRefusal, eliminated, elimination}
-use Rattle.elimination.specs.Step.{independence}
+use Rattle.elimination.specs.Answers.{checkedRefusal, eliminated, independence, elimination}
 
 module _ (c : Code) where
   answered : Option Refusal → Elimination

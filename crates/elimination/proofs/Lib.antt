@@ -1,11 +1,6 @@
-pub mod Clearing
-pub mod GatheredRows
-pub mod RowKinds
 pub mod CheckOrder
-pub mod ArrayLength
-pub mod Rows
 pub mod Numbers
-pub mod Signs
+pub mod Passed
 pub mod Steps
-pub mod FirstRows
+pub mod AnyRow
 pub mod Walk

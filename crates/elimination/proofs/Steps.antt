@@ -1,5 +1,5 @@
 -- 7 and 8, row by row: the canonical generators of the rows so far, which are independent, tell what the next row is.
-use mathlib.Core.Bool.{Bool, true, false, cond, false≢true}
+use mathlib.Core.Bool.{Bool, true, false, cond}
 use mathlib.Core.List.{List, []}
 use mathlib.Core.Option.{Option, none, some}
 use mathlib.Core.Path.{_≡_, refl, ap, ap₂, sym, subst, _∙_}
@@ -11,7 +11,7 @@ use Rattle.pauli.specs.declared.Pauli.{Pauli}
 use Rattle.pauli.specs.Product.{identity, sameMasks, samePauli}
 use Rattle.code_record.specs.declared.Family.{Family}
 use Rattle.code_record.specs.declared.Refusal.{Refusal}
-use Rattle.code_record.specs.Record.{isRow}
+use Rattle.code_record.specs.Record.{generatorRoom, isRow}
 use Rattle.code_record.specs.Refusals.{_then_}
 use Rattle.stabilizer.specs.Canonical.{reduced, reducesToIdentity, added, canonicalGenerators}
 use Rattle.stabilizer.specs.Checks.{minusIdentity, firstFault, dependence}
@@ -21,14 +21,13 @@ use Rattle.stabilizer.proofs.Generated.{whole, Commute, Commuting}
 use Rattle.stabilizer.proofs.Independent.{Independent, independent-none, independent-more}
 use Rattle.stabilizer.proofs.StabilizerRows.{Rows}
 use Rattle.stabilizer.proofs.Reduction.{canonical-more}
-use Rattle.elimination.specs.declared.Added.{Added}
-use Rattle.elimination.specs.declared.Kind.{Kind}
-use Rattle.elimination.specs.declared.Kind.the-variants.{Independent as IsIndependent, PlusIdentity}
-use Rattle.elimination.specs.declared.Kind.the-variants.{MinusIdentity}
-use Rattle.elimination.specs.declared.ReducedRows.{ReducedRows}
-use Rattle.elimination.specs.Answers.{rowsIn, reducedOf}
-use Rattle.elimination.specs.Step.{IsReducedOf, kindOf, addition}
-use Rattle.elimination.proofs.Rows.{rows-of, is-reduced-of}
+use Rattle.reduced_rows.specs.declared.Kind.{Kind}
+use Rattle.reduced_rows.specs.declared.Kind.the-variants.{Independent as IsIndependent, PlusIdentity, MinusIdentity}
+use Rattle.reduced_rows.specs.declared.ReducedRows.{ReducedRows}
+use Rattle.reduced_rows.specs.Rows.{rowsIn, reducedOf}
+use Rattle.reduced_rows.specs.Step.{kindOf, addition}
+use Rattle.reduced_rows.proofs.RowKinds.{independent-left, independent-joins}
+use Rattle.reduced_rows.proofs.Rows.{rows-of}
 use Rattle.elimination.proofs.Walk.{Left, taken-more, fault-start, fault-at, fault-end}
 
 -- ---- the fault of a kind
@@ -50,22 +49,6 @@ kind-fault at Q = by (sameMasks Q identity) (samePauli minusIdentity Q)
     by true true = refl
     by true false = refl
     by false minus? = refl
-
--- Of the three kinds, the one that leaves more than a phase.
-isNew : Kind → Bool
-isNew IsIndependent = true
-isNew PlusIdentity = false
-isNew MinusIdentity = false
-
-independent-left : (Q : Pauli) → kindOf Q ≡ IsIndependent → sameMasks Q identity ≡ false
-unfolding kindOf isNew
-independent-left Q = by (sameMasks Q identity) (samePauli minusIdentity Q)
-  where
-    by : (none? minus? : Bool) → cond none? (cond minus? MinusIdentity PlusIdentity) IsIndependent ≡ IsIndependent
-        → none? ≡ false
-    by true true e = absurd (false≢true (ap isNew e))
-    by true false e = absurd (false≢true (ap isNew e))
-    by false minus? e = refl
 
 -- ---- the first rows of an array
 
@@ -93,10 +76,7 @@ module _ (n line : ℕ) (rows : List Pauli) (count : ℕ) where
       record { held = e; independent = independent-none n; left = fault-start dependence rows count 0 line refl }
 
   module _ {place : ℕ} {hs : ReducedRows} (s : Stepped place hs) where
-    pub stepped-is : IsReducedOf hs
-    stepped-is = subst IsReducedOf (sym (s .held)) (is-reduced-of n (canonicalGenerators n (take place rows)))
-
-    pub stepped-count : place ≤ length rows → hs .count ≡ place
+    stepped-count : place ≤ length rows → hs .count ≡ place
     unfolding reducedOf
     stepped-count few = omega (arith, ap (λ r. r .count) (s .held), s .independent .count, length-take place rows)
 
@@ -106,8 +86,8 @@ module _ (n line : ℕ) (rows : List Pauli) (count : ℕ) where
     -- One row more, of rows of n qubits that commute.
     module _ (room : count ≤ length rows) (areRows : Rows n (take count rows))
         (commuting : Commuting whole (take count rows))
-        (few : place < count) (P : Pauli) (here : P ≡ getD rows place identity) {step : Added}
-        (stepped : step ≡ addition hs P) where
+        (few : place < count) (P : Pauli) (here : P ≡ getD rows place identity) {kind : Kind}
+        (told : kind ≡ kindOf (reduced (hs .n) (rowsIn hs) P)) where
       inside : place < length rows
       inside = omega arith
 
@@ -120,17 +100,19 @@ module _ (n line : ℕ) (rows : List Pauli) (count : ℕ) where
       Q : Pauli
       Q = reduced n (canonicalGenerators n (take place rows)) (getD rows place identity)
 
-      kind-is : step .kind ≡ kindOf Q
-      unfolding addition reducedOf Q
+      kind-is : kind ≡ kindOf Q
+      unfolding reducedOf Q
       kind-is =
-          ap (λ r. r .kind) stepped
-          ∙ ap (λ r. kindOf (reduced (r .n) (rowsIn r) P)) (s .held)
+          told ∙ ap (λ r. kindOf (reduced (r .n) (rowsIn r) P)) (s .held)
           ∙ ap₂ (λ hs P. kindOf (reduced n hs P)) (rows-of n (canonicalGenerators n (take place rows))) here
 
-      reduced-is : step .reduced ≡ reducedOf n (canonicalGenerators n (take (place + 1) rows))
-      unfolding addition reducedOf
-      reduced-is =
-          ap (λ r. r .reduced) stepped ∙ ap (λ r. reducedOf (r .n) (added (r .n) (rowsIn r) P)) (s .held)
+      reduced-is : count ≤ generatorRoom → kind ≡ IsIndependent
+          → addition hs P ≡ reducedOf n (canonicalGenerators n (take (place + 1) rows))
+      unfolding reducedOf
+      reduced-is small e =
+          let short = stepped-count (omega (arith, inside)) in
+          independent-joins hs P (omega (arith, short)) (sym told ∙ e)
+          ∙ ap (λ r. reducedOf (r .n) (added (r .n) (rowsIn r) P)) (s .held)
           ∙ ap₂ (λ hs P. reducedOf n (added n hs P)) (rows-of n (canonicalGenerators n (take place rows))) here
           ∙ ap (reducedOf n) (sym (canonical-more n (take place rows) (getD rows place identity)))
           ∙ ap (λ all. reducedOf n (canonicalGenerators n all)) (taken-more rows place inside)
@@ -144,8 +126,8 @@ module _ (n line : ℕ) (rows : List Pauli) (count : ℕ) where
           (this (λ R. All (Commute whole R) (take count rows)) commuting)
 
       -- What is found from here on.
-      found : {kind : Kind} → step .kind ≡ kind
-          → (kindFault (line + place) kind then Left dependence rows count (place + 1) line)
+      found : {kind′ : Kind} → kind ≡ kind′
+          → (kindFault (line + place) kind′ then Left dependence rows count (place + 1) line)
           ≡ firstFault dependence [] line (take count rows)
       unfolding Q
       found e =
@@ -155,17 +137,18 @@ module _ (n line : ℕ) (rows : List Pauli) (count : ℕ) where
           (s .independent .stabilizer) row ∙ kind-fault (line + place) Q))
           ∙ sym (fault-at dependence rows count place line few room) ∙ s .left
 
-      pub stepped-fault : {kind : Kind} {refusal : Refusal} → step .kind ≡ kind
-          → kindFault (line + place) kind ≡ some refusal
+      pub stepped-fault : {kind′ : Kind} {refusal : Refusal} → kind ≡ kind′
+          → kindFault (line + place) kind′ ≡ some refusal
           → some refusal ≡ firstFault dependence [] line (take count rows)
       unfolding _then_
       stepped-fault e f = ap (λ fault. fault then Left dependence rows count (place + 1) line) (sym f) ∙ found e
 
-      pub stepped-more : step .kind ≡ IsIndependent → Stepped (place + 1) (step .reduced)
+      pub stepped-more : {longer : ReducedRows} → count ≤ generatorRoom → kind ≡ IsIndependent → longer ≡ addition hs P
+          → Stepped (place + 1) longer
       unfolding _then_ Q reducesToIdentity
-      stepped-more e =
+      stepped-more small e added =
           record {
-            held = reduced-is;
+            held = added ∙ reduced-is small e;
             independent =
                 subst (Independent n) (taken-more rows place inside)
                 (independent-more n (take place rows) (getD rows place identity) (s .independent) row commutes-before

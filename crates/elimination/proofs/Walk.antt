@@ -14,7 +14,7 @@ use Rattle.pauli.specs.Product.{identity}
 use Rattle.code_record.specs.declared.Refusal.{Refusal}
 use Rattle.code_record.specs.Refusals.{_then_}
 use Rattle.stabilizer.specs.Checks.{firstFault}
-use Rattle.elimination.proofs.FirstRows.{taken-at, taken-end}
+use Rattle.reduced_rows.proofs.FirstRows.{taken-at, taken-end}
 
 -- One row more.
 pub taken-more : (rows : List Pauli) (place : ℕ) → place < length rows

@@ -1,4 +1,4 @@
--- What is stated of the calls on a record's group.
+-- What is stated of the checks of a record's generators.
 use mathlib.Core.List.{[], _∷_}
 use mathlib.Core.Option.{some}
 use mathlib.Core.Path.{_≡_}
@@ -9,8 +9,9 @@ use Rattle.code_record.specs.Record.{generators}
 use Rattle.sheet.specs.Statements.{Among}
 use Rattle.stabilizer.specs.Canonical.{reducesToIdentity}
 use Rattle.stabilizer.specs.Group.{inGroupUpToPhase}
+use Rattle.reduced_rows.specs.Rows.{rowsIn}
 use Rattle.elimination.specs.declared.Checked.{Checked}
-use Rattle.elimination.specs.Answers.{rowsIn, checkedRefusal, membershipRefusal, elimination, membership}
+use Rattle.elimination.specs.Answers.{checkedRefusal, elimination}
 
 -- Of a record that passes the checks, the canonical generators contain a Pauli exactly where it is in the group, phase
 -- aside: where some selection's product has its masks.
@@ -20,9 +21,8 @@ ContainsDecidesMembership =
     → reducesToIdentity (elimination c .reduced .n) (rowsIn (elimination c .reduced)) P
     ≡ inGroupUpToPhase (generators c) P
 
--- RULES, "Refusals": the numbers with which the calls refuse.
-pub record GroupRefusalNumbers : Type 0 where
-  pub checks : (c : Code) (refusal : Refusal) → checkedRefusal (elimination c .answer) ≡ some refusal
-      → Among (6 ∷ 7 ∷ 8 ∷ 15 ∷ []) refusal
-  pub membership : (c : Code) (P : Pauli) (refusal : Refusal) → membershipRefusal (membership c P) ≡ some refusal
-      → Among (6 ∷ 7 ∷ 8 ∷ 15 ∷ []) refusal
+-- RULES, "Refusals": the numbers with which the call refuses.
+abbrev pub EliminationRefusalNumbers : Type 0
+EliminationRefusalNumbers =
+    (c : Code) (refusal : Refusal) → checkedRefusal (elimination c .answer) ≡ some refusal
+    → Among (6 ∷ 7 ∷ 8 ∷ 15 ∷ []) refusal

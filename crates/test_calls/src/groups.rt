@@ -9,9 +9,9 @@ use code_record::Code;
 use code_record::Family;
 use code_record::pair_count;
 use elimination::Checked;
-use elimination::Membership;
-use elimination::ReducedRows;
+use membership::Membership;
 use pauli::Pauli;
+use reduced_rows::ReducedRows;
 use test_cases::above;
 use test_cases::changed;
 use test_cases::print;
@@ -79,7 +79,7 @@ fn print_family(code: Code, reduced: ReducedRows, family: Family, count: usize) 
 // The sign of the member with p's masks, or that there is none; a mark behind it where `contains` says otherwise.
 fn print_membership(code: Code, reduced: ReducedRows, p: Pauli) {
     let mut member = true;
-    match elimination::membership_of(code, p) {
+    match membership::membership_of(code, p) {
         Membership::Member(sign) => print(&[b' ', sign.byte()]),
         Membership::NotMember => {
             print(b" no");

@@ -8,8 +8,8 @@ use Rattle.sheet.specs.Text.{untouched}
 use Rattle.sheet.proofs.WrittenText.{written-fault}
 use Rattle.rows_writer.specs.Rows.{writeRows}
 use Rattle.stabilizer.specs.Canonical.{canonicalText, writeCanonical}
-use Rattle.elimination.specs.Answers.{rowsIn}
-use Rattle.elimination.proofs.Signs.{fault-told, rows-told}
+use Rattle.reduced_rows.specs.Rows.{rowsIn}
+use Rattle.elimination.proofs.Passed.{fault-told, rows-told}
 use Rattle.canonical.proofs.Text.{same-answer}
 use Rattle.canonical.proofs.write_canonical.Statement.{statement}
 use Rattle.canonical.proofs.write_canonical.Tie as tie

@@ -8,7 +8,7 @@ use Rattle.pauli.specs.declared.Pauli.{Pauli}
 use Rattle.pauli.specs.Lists.{anyOf}
 use Rattle.pauli.specs.Product.{identity, anticommutes}
 use Rattle.code_record.proofs.ArrayLengths.{sized-of}
-use Rattle.elimination.proofs.FirstRows.{any-here, any-later, any-none}
+use Rattle.elimination.proofs.AnyRow.{any-here, any-later, any-none}
 use borrow.Author.Needs.{needs}
 use Rattle.elimination.proofs.clashes.Statement.{statement}
 use Rattle.elimination.proofs.clashes.Tie as tie

@@ -17,13 +17,12 @@ use Rattle.stabilizer.proofs.All.{all-of}
 use Rattle.stabilizer.proofs.Faults.{clash-free-commuting}
 use Rattle.stabilizer.proofs.Generated.{whole, Commuting}
 use Rattle.stabilizer.proofs.StabilizerRows.{Rows}
+use Rattle.reduced_rows.specs.declared.Kind.{Kind}
+use Rattle.reduced_rows.specs.Rows.{reducedOf}
 use Rattle.elimination.specs.declared.Checked.{Checked}
 use Rattle.elimination.specs.declared.Elimination.{Elimination}
-use Rattle.elimination.specs.declared.Kind.{Kind}
-use Rattle.elimination.specs.Answers.{reducedOf, eliminated}
-use Rattle.elimination.specs.Step.{independence}
-use Rattle.elimination.proofs.Steps.{kindFault, Stepped, stepped-none, stepped-is, stepped-count, stepped-end}
-use Rattle.elimination.proofs.Steps.{stepped-fault, stepped-more}
+use Rattle.elimination.specs.Answers.{eliminated, independence}
+use Rattle.elimination.proofs.Steps.{kindFault, Stepped, stepped-none, stepped-end, stepped-fault, stepped-more}
 use borrow.Author.Needs.{needs}
 use Rattle.elimination.proofs.independence.Statement.{statement}
 use Rattle.elimination.proofs.independence.Tie as tie
@@ -72,12 +71,12 @@ module _ (c : tie.After-generators-at Inv-loop μ-loop) where
       ap (λ fault. eliminated fault (code .n) (canonicalGenerators (code .n) (generators code)))
       (e ∙ ap (λ at. firstFault dependence [] at (generators code)) (c .generators-at .ensures))
 
--- ---- behind a step
+-- ---- behind a row's kind
 
-abbrev at : tie.After-add Inv-loop μ-loop → tie.At-loop Inv-loop μ-loop
+abbrev at : tie.After-kind-of Inv-loop μ-loop → tie.At-loop Inv-loop μ-loop
 at c = c .before .before .before
 
-module _ (c : tie.After-add Inv-loop μ-loop) where
+module _ (c : tie.After-kind-of Inv-loop μ-loop) where
   abbrev s : tie.After-generators-at Inv-loop μ-loop
   s = start (at c)
 
@@ -87,19 +86,13 @@ module _ (c : tie.After-add Inv-loop μ-loop) where
   line-fits : line s + place < 2 ^ 32
   line-fits = omega (arith, room s, line-small s, at c .loop .inv .0)
 
-  faulty : {kind : Kind} {refusal : Refusal} {result : Elimination} → c .add .result .kind ≡ kind
+  faulty : {kind : Kind} {refusal : Refusal} {result : Elimination} → c .kind-of .result ≡ kind
       → kindFault (line s + place) kind ≡ some refusal → result ≡ eliminated (some refusal) 0 []
       → result ≡ independence (code s)
   unfolding eliminated
   faulty e f r =
       r ∙ answered s (stepped-fault (code s .n) (line s) (code s .g) (code s .r) (at c .loop .inv .1) (room s .0)
-      (are-rows s) (commuting s) (c .before .before .loop-test .taken) _ refl (c .add .ensures) e f)
-
-  grown : c .add .result .kind ≡ Kind.Independent
-      → Stepped (code s .n) (line s) (code s .g) (code s .r) (place + 1) (c .add .result .reduced)
-  grown e =
-      stepped-more (code s .n) (line s) (code s .g) (code s .r) (at c .loop .inv .1) (room s .0) (are-rows s)
-      (commuting s) (c .before .before .loop-test .taken) _ refl (c .add .ensures) e
+      (are-rows s) (commuting s) (c .before .before .loop-test .taken) _ refl (c .kind-of .ensures) e f)
 
 -- ---- the needs
 
@@ -109,21 +102,11 @@ cast-empty c = let few = room c in record { fits = omega (arith, few) }
 loop-holds : tie.Need-loop-holds Inv-loop μ-loop
 loop-holds c = (search needs, stepped-none _ _ _ _ _ (c .empty .ensures))
 
-mul-add : tie.Need-mul-add Inv-loop μ-loop
-mul-add c = let few = room (start (c .before)) in search needs
+mul-p : tie.Need-mul-p Inv-loop μ-loop
+mul-p c = let few = room (start (c .before)) in search needs
 
-element-copy-out-add : tie.Need-element-copy-out-add Inv-loop μ-loop
-element-copy-out-add c = let few = room (start (c .before)) in omega (arith, few, c .loop-test .taken)
-
-add-requires : tie.Need-add-requires Inv-loop μ-loop
-add-requires c κs =
-    let loop = c .before .before in
-    let s = start loop in
-    let few = room s in
-    let inside : loop .loop .place ≤ length (code s .g) = omega (arith, few, loop .loop .inv .0) in (
-      stepped-is (code s .n) (line s) (code s .g) (code s .r) (loop .loop .inv .1),
-      omega (arith, few, stepped-count (code s .n) (line s) (code s .g) (code s .r) (loop .loop .inv .1) inside),
-    )
+element-copy-out-p : tie.Need-element-copy-out-p Inv-loop μ-loop
+element-copy-out-p c = let few = room (start (c .before)) in omega (arith, few, c .loop-test .taken)
 
 returns : tie.Need-returns Inv-loop μ-loop
 returns c = let told = c .before in
@@ -134,7 +117,15 @@ returns-2 c = let told = c .before in
     faulty (told .before .before) (told .enum-told3 .given .1) refl (c .refused2 .ensures)
 
 loop-again : tie.Need-loop-again Inv-loop μ-loop
-loop-again c = let told = c .before in (search needs, grown (told .before .before) (told .enum-told .given .1))
+loop-again c =
+    let told = c .before in
+    let here = told .before .before in
+    let code = code (s here) in (
+      search needs,
+      stepped-more (code .n) (line (s here)) (code .g) (code .r) (at here .loop .inv .1) (room (s here) .0)
+          (are-rows (s here)) (commuting (s here)) (here .before .before .loop-test .taken) _ refl
+          (here .kind-of .ensures) (omega (arith, room (s here) .1)) (told .enum-told .given .1) (c .add .ensures),
+    )
 
 returns-3 : tie.Need-returns-3 Inv-loop μ-loop
 unfolding eliminated generators
@@ -157,9 +148,9 @@ independence-spec =
     cast-empty
     (λ c κs. search needs)
     loop-holds
-    mul-add
-    element-copy-out-add
-    add-requires
+    mul-p
+    element-copy-out-p
+    (λ c κs. search needs)
     (λ c. search needs)
     (λ c. search needs)
     (λ c. record { fits = omega (arith, line-fits (c .before .before)) })
@@ -169,6 +160,7 @@ independence-spec =
     (λ c. record { fits = omega (arith, line-fits (c .before .before)) })
     (λ c κs. search needs)
     returns-2
+    (λ c κs. search needs)
     (λ c. search needs)
     (λ c. search needs)
     loop-again

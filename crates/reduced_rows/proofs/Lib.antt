@@ -1,0 +1,5 @@
+pub mod ArrayLength
+pub mod FirstRows
+pub mod Rows
+pub mod GatheredRows
+pub mod RowKinds
