@@ -1,4 +1,1 @@
-pub mod Reached
-pub mod Progress
-pub mod RowLines
-pub mod Sheets
+pub mod Form

@@ -4,7 +4,7 @@ use native.Mathlib.Omega.{arith}
 use Rattle.code_record.specs.declared.LinesReading.{LinesReading}
 use Rattle.sheet.specs.Reader.{readLines, readForm, answered, linesReading, formReading}
 use Rattle.sheet.proofs.ReadBack.{reads-are-lawful, read-within}
-use Rattle.reader.proofs.Sheets.{claim-near, form-refused, form-behind, form-whole}
+use Rattle.reader.proofs.Form.{claim-near, form-refused, form-behind, form-whole}
 use borrow.Author.Needs.{needs}
 use Rattle.reader.proofs.read_form.Statement.{statement}
 use Rattle.reader.proofs.read_form.Tie as tie

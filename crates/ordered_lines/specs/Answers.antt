@@ -1,0 +1,70 @@
+-- What the readers of the lines in their order answer, in the terms of the sheet's definitions.
+use mathlib.Core.List.{List}
+use mathlib.Core.Path.{_≡_}
+use Prim.Native.Nat.{ℕ, _+_, _≤_}
+use lib.ListN.{length, drop}
+use Rattle.pauli.specs.declared.Pauli.{Pauli}
+use Rattle.code_record.specs.declared.Lines.{Lines}
+use Rattle.code_record.specs.declared.LinesReading.{LinesReading}
+use Rattle.code_record.specs.Record.{generatorRoom, logicalRoom, firstGeneratorAt, filled, codeOf, emptyCode}
+use Rattle.sheet.specs.Reader.{Parsed, Reader, SheetRead, got, stop, done, continue, _andThen_, answered}
+use Rattle.sheet.specs.Reader.{distanceLine, generatorLines, claimLine, linesAfter}
+use Rattle.row_lines.specs.declared.Rows.{Rows}
+use Rattle.row_lines.specs.declared.Logicals.{Logicals}
+
+-- How many bytes were read.
+abbrev pub usedIn : Lines → ℕ
+usedIn (Lines.Read used) = used
+usedIn (Lines.Refused refusal) = 0
+
+-- The answer of a reader and the value beside it, as the definitions have them.
+abbrev pub parsed : {A : Type 0} → List ℕ → Lines → A → Parsed A
+parsed s (Lines.Read used) value = got value (drop used s)
+parsed s (Lines.Refused refusal) value = stop refusal
+
+-- A reader's answer and the value beside it are what the definition gives, and it used no more bytes than there are.
+pub record Reads {A : Type 0} (s : List ℕ) (answer : Lines) (value : A) (definition : Parsed A) : Type 0 where
+  pub within : usedIn answer ≤ length s
+  pub parses : parsed s answer value ≡ definition
+
+-- A refused reading: the empty record stands beside the refusal.
+abbrev pub emptyBeside : Lines → LinesReading
+emptyBeside answer = record { answer = answer; «claim_at» = 0; code = emptyCode }
+
+-- ---- the readers of what is left from a line on
+
+-- The line of w, which stands on the line `at`, and the record.
+abbrev pub withClaim : (n d at : ℕ) → (gs xs zs : List Pauli) → Reader SheetRead
+withClaim n d at gs xs zs =
+    claimLine n at andThen λ w.
+    done (record { code = codeOf n d gs xs zs w; claimAt = at })
+
+abbrev pub linesFromG : (n d : ℕ) → Reader SheetRead
+linesFromG n d =
+    generatorLines n firstGeneratorAt andThen λ gs.
+    linesAfter n d (firstGeneratorAt + length gs) gs
+
+abbrev pub linesFromD : ℕ → Reader SheetRead
+linesFromD n = distanceLine andThen linesFromG n
+
+-- What is read from a byte on.
+abbrev pub ReadsOn : List ℕ → ℕ → Reader SheetRead → LinesReading → Type 0
+ReadsOn s from reader reading = reading ≡ answered s (reader (drop from s))
+
+-- The same behind the rows that the arrays hold.
+abbrev pub countedRows : List Pauli → ℕ × List Pauli
+countedRows rows = (length rows, filled generatorRoom rows)
+
+abbrev pub filledLogicals : (xs zs : List Pauli) → List Pauli × List Pauli
+filledLogicals xs zs = (filled logicalRoom xs, filled logicalRoom zs)
+
+abbrev pub ReadsAfter : List ℕ → ℕ → Rows → (List Pauli → Reader SheetRead) → LinesReading → Type 0
+ReadsAfter s from generators after reading =
+    (gs : List Pauli) → countedRows gs ≡ (generators .count, generators .rows) → ReadsOn s from (after gs) reading
+
+abbrev pub ReadsClaim : List ℕ → ℕ → Rows → Logicals → ((gs xs zs : List Pauli) → Reader SheetRead) → LinesReading
+    → Type 0
+ReadsClaim s from generators logicals after reading =
+    (gs xs zs : List Pauli) → countedRows gs ≡ (generators .count, generators .rows)
+    → filledLogicals xs zs ≡ (logicals .x, logicals .z)
+    → ReadsOn s from (after gs xs zs) reading

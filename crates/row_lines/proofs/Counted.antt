@@ -1,0 +1,158 @@
+-- What the counts of the rows make of the lines that were read.
+use mathlib.Core.Bool.{Bool, true, false, _||_, or-true}
+use mathlib.Core.List.{List, [], _∷_, _++_}
+use mathlib.Core.Path.{_≡_, refl, ap, sym, _∙_}
+use Prim.Native.Nat.{ℕ, zero, suc, _+_, _-_, _<_, _≤_}
+use Prim.Native.String.{String}
+use native.Mathlib.Omega.{arith}
+use borrow.Author.Tests.{lt-ltb, le-ltb, eq-eqb, ne-eqb}
+use lib.Dec.{eqb}
+use lib.ListN.{length, take, drop, replicate}
+use lib.Seq.{take-append-add}
+use Rattle.pauli.specs.declared.Pauli.{Pauli}
+use Rattle.pauli.specs.Lists.{bytes}
+use Rattle.pauli.specs.Product.{identity}
+use Rattle.code_record.specs.declared.Refusal.{Refusal}
+use Rattle.code_record.specs.Record.{generatorRoom, logicalRoom, mostGenerators, filled}
+use Rattle.sheet.specs.Reader.{got, stop, begins, rowsUpTo, generatorLines, countedGenerators}
+use Rattle.sheet.specs.Reader.{logicalLines, countedLogicals}
+use Rattle.lines.proofs.Reading.{then-got, then-stop}
+use Rattle.row_lines.specs.declared.Gathered.{Gathered}
+use Rattle.row_lines.specs.Answers.{rowsLeft, Gathers, Held, GathersLogicals}
+use Rattle.row_lines.proofs.Progress.{progress-refused, progress-end}
+use Rattle.row_lines.proofs.RowsLeft.{rows-all, rows-full, rows-ended, rows-refused}
+
+-- The rows in an array of a shorter room.
+take-replicate : (m n : ℕ) (P : Pauli) → m ≤ n → take m (replicate n P) ≡ replicate m P
+take-replicate zero n P h = refl
+take-replicate (suc m) zero P h = absurd (omega arith)
+take-replicate (suc m) (suc n) P h = ap (λ rest. P ∷ rest) (take-replicate m n P (omega arith))
+
+pub shorter-room : (ls : List Pauli) → length ls ≤ logicalRoom
+    → take logicalRoom (filled generatorRoom ls) ≡ filled logicalRoom ls
+unfolding filled
+shorter-room ls h =
+    let places : logicalRoom ≡ length ls + (logicalRoom - length ls) = omega arith in
+    let fewer : logicalRoom - length ls ≤ generatorRoom - length ls = omega arith in
+    ap (λ m. take m (ls ++ replicate (generatorRoom - length ls) identity)) places
+    ∙ take-append-add ls (replicate (generatorRoom - length ls) identity) (logicalRoom - length ls)
+    ∙ ap (λ rest. ls ++ rest) (take-replicate _ _ _ fewer)
+
+-- ---- rows of any key
+
+module _ {s : List ℕ} {key : String} {n most : ℕ} {r : Gathered} (h : Gathers s key n most r) where
+  -- nothing is left
+  ended : (at : ℕ) → rowsLeft key n most at (r .count) (drop (r .used) s) ≡ got [] (drop (r .used) s)
+      → Held generatorRoom s (r .used) (r .count) (r .rows) (rowsUpTo most key n at s)
+  ended at e =
+      let p = h .progress at in
+      record {
+        read = p .read;
+        held = p .held;
+        counted = p .counted;
+        gives = sym (rows-all key n most at s) ∙ progress-end generatorRoom _ s p e;
+      }
+
+  pub rows-all-read : most ≤ r .count → (at : ℕ)
+      → Held generatorRoom s (r .used) (r .count) (r .rows) (rowsUpTo most key n at s)
+  rows-all-read all at = ended at (rows-full key n most at (r .count) (drop (r .used) s) all)
+
+  pub rows-behind : begins (bytes key) (drop (r .used) s) ≡ false → (at : ℕ)
+      → Held generatorRoom s (r .used) (r .count) (r .rows) (rowsUpTo most key n at s)
+  rows-behind other at = ended at (rows-ended key n most at (r .count) (drop (r .used) s) other)
+
+  pub rows-off-form : begins (bytes key) (drop (r .used) s) ≡ true → r .count < most → (at : ℕ)
+      → rowsUpTo most key n at s ≡ stop (Refusal.Form (at + r .count))
+  rows-off-form begun more at =
+      sym (rows-all key n most at s)
+      ∙ progress-refused generatorRoom _ s (h .progress at)
+      (rows-refused key n most at (r .count) (drop (r .used) s) more begun (h .ended more (at + r .count)))
+
+-- ---- g lines
+
+module _ (n at : ℕ) (s : List ℕ) where
+  counted : {gs : List Pauli} {rest : List ℕ} → rowsUpTo (mostGenerators n) "g=" n at s ≡ got gs rest
+      → generatorLines n at s ≡ countedGenerators at gs rest
+  unfolding generatorLines
+  counted e = then-got (countedGenerators at) e
+
+module _ {n : ℕ} {s : List ℕ} {r : Gathered} (h : Gathers s "g=" n (mostGenerators n) r) (at : ℕ) where
+  pub generators-off-form : begins (bytes "g=") (drop (r .used) s) ≡ true → r .count < mostGenerators n
+      → generatorLines n at s ≡ stop (Refusal.Form (at + r .count))
+  unfolding generatorLines
+  generators-off-form begun more = then-stop (countedGenerators at) (rows-off-form h begun more at)
+
+  pub generators-too-many : begins (bytes "g=") (drop (r .used) s) ≡ true → mostGenerators n ≤ r .count
+      → generatorLines n at s ≡ stop (Refusal.GeneratorCount (at + r .count))
+  unfolding countedGenerators
+  generators-too-many begun all =
+      let m = rows-all-read h all at in
+      counted n at s (m .gives) ∙ rw (begun, or-true) (ap (λ i. stop (Refusal.GeneratorCount (at + i))) (m .counted))
+
+  pub generators-none : begins (bytes "g=") (drop (r .used) s) ≡ false → r .count ≡ 0
+      → generatorLines n at s ≡ stop (Refusal.GeneratorCount (at + 0))
+  unfolding countedGenerators
+  generators-none other none =
+      let m = rows-behind h other at in
+      counted n at s (m .gives)
+      ∙ rw (eq-eqb (length (m .read)) 0 (m .counted ∙ none))
+      (ap (λ i. stop (Refusal.GeneratorCount (at + i))) (m .counted ∙ none))
+
+  pub generators-read : begins (bytes "g=") (drop (r .used) s) ≡ false → (r .count ≡ 0 → ⊥)
+      → Held generatorRoom s (r .used) (r .count) (r .rows) (generatorLines n at s)
+  unfolding countedGenerators
+  generators-read other some =
+      let m = rows-behind h other at in
+      record {
+        read = m .read;
+        held = m .held;
+        counted = m .counted;
+        gives =
+            counted n at s (m .gives) ∙ rw (ne-eqb (length (m .read)) 0 (λ e. some (sym (m .counted) ∙ e)), other);
+      }
+
+-- ---- x and z lines
+
+module _ (k : ℕ) (key : String) (n at : ℕ) (s : List ℕ) {ls : List Pauli} {rest : List ℕ}
+    (read : rowsUpTo k key n at s ≡ got ls rest) where
+  logicals-missing : length ls < k → logicalLines k key n at s ≡ stop (Refusal.Form (at + length ls))
+  unfolding logicalLines countedLogicals
+  logicals-missing h = then-got (countedLogicals k at) read ∙ rw (lt-ltb (length ls) k h)
+
+  logicals-counted : k ≤ length ls → logicalLines k key n at s ≡ got ls rest
+  unfolding logicalLines countedLogicals
+  logicals-counted h = then-got (countedLogicals k at) read ∙ rw (le-ltb (length ls) k h)
+
+module _ {k : ℕ} {key : String} {n : ℕ} {s : List ℕ} {r : Gathered} (h : Gathers s key n k r) where
+  -- a line is missing, or off its form
+  logicals-short : r .count < k → (at : ℕ) → logicalLines k key n at s ≡ stop (Refusal.Form (at + r .count))
+  unfolding logicalLines
+  logicals-short few at = by-key (begins (bytes key) (drop (r .used) s)) refl
+    where
+      by-key : (b : Bool) → begins (bytes key) (drop (r .used) s) ≡ b
+          → logicalLines k key n at s ≡ stop (Refusal.Form (at + r .count))
+      by-key true begun = then-stop (countedLogicals k at) (rows-off-form h begun few at)
+      by-key false other =
+          let m = rows-behind h other at in
+          logicals-missing k key n at s (m .gives) (omega (arith, m .counted))
+          ∙ ap (λ i. stop (Refusal.Form (at + i))) (m .counted)
+
+  -- the same in an array with room for the logicals
+  pub logicals-gathered : {rows : List Pauli} → rows ≡ take logicalRoom (r .rows) → k ≤ logicalRoom
+      → GathersLogicals s key n k (record { used = r .used; count = r .count; rows = rows })
+  logicals-gathered copied room =
+      record {
+        few = h .few;
+        within = h .within;
+        short = logicals-short;
+        all = λ full at.
+            let m = rows-all-read h full at in
+            record {
+              read = m .read;
+              held =
+                  copied ∙ ap (take logicalRoom) (m .held)
+                  ∙ shorter-room (m .read) (omega (arith, m .counted, h .few));
+              counted = m .counted;
+              gives = logicals-counted k key n at s (m .gives) (omega (arith, m .counted));
+            };
+      }

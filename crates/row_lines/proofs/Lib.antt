@@ -1,0 +1,5 @@
+pub mod RowForms
+pub mod Progress
+pub mod RowsLeft
+pub mod Counted
+pub mod Answered

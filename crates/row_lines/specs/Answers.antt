@@ -1,0 +1,122 @@
+-- What the readers of rows answer, in the terms of the sheet's definitions.
+use mathlib.Core.List.{List, [], _++_}
+use mathlib.Core.Path.{_≡_}
+use Prim.Native.Nat.{ℕ, _+_, _-_, _≤_, _<_}
+use Prim.Native.String.{String}
+use lib.ListN.{length, drop, replicate}
+use Rattle.pauli.specs.declared.Pauli.{Pauli}
+use Rattle.pauli.specs.Product.{identity}
+use Rattle.code_record.specs.declared.Lines.{Lines}
+use Rattle.code_record.specs.declared.Refusal.{Refusal}
+use Rattle.code_record.specs.Record.{generatorRoom, logicalRoom, filled}
+use Rattle.sheet.specs.Reader.{Parsed, Reader, got, stop, done, continue, _andThen_}
+use Rattle.sheet.specs.Reader.{rowLine, rowsUpTo, logicalLines}
+use Rattle.lines.specs.Answers.{linesOf, valueOr}
+use Rattle.row_lines.specs.declared.RowRead.{RowRead}
+use Rattle.row_lines.specs.declared.Gathered.{Gathered}
+use Rattle.row_lines.specs.declared.LogicalRows.{LogicalRows}
+use Rattle.row_lines.specs.declared.RowsAnswer.{RowsAnswer}
+use Rattle.row_lines.specs.declared.Rows.{Rows}
+use Rattle.row_lines.specs.declared.Logicals.{Logicals}
+
+-- ---- one line
+
+abbrev pub bytesOf : RowRead → ℕ
+bytesOf (RowRead.Got used row) = used
+bytesOf RowRead.OffForm = 0
+
+-- What a line was read as, where it is the line `at`.
+abbrev pub rowAt : ℕ → List ℕ → RowRead → Parsed Pauli
+rowAt at s (RowRead.Got used row) = got row (drop used s)
+rowAt at s RowRead.OffForm = stop (Refusal.Form at)
+
+-- ---- lines one after the other
+
+-- The rows read so far stand before those that the rest gives.
+unfoldable pub prepended : List Pauli → Parsed (List Pauli) → Parsed (List Pauli)
+prepended read p = continue p (λ rows. done (read ++ rows))
+
+-- The reader of the lines that are left after some.
+unfoldable pub rowsLeft : String → ℕ → ℕ → ℕ → ℕ → Reader (List Pauli)
+rowsLeft key n most at count = rowsUpTo (most - count) key n (at + count)
+
+-- Rows that are read one after the other, into an array with room for so many. `R count` reads what is left behind the
+-- first `count`.
+pub record Progress (room : ℕ) (R : ℕ → Reader (List Pauli)) (s : List ℕ) (rows : List Pauli)
+    (count used : ℕ) : Type 0 where
+  pub read : List Pauli
+  pub held : rows ≡ filled room read
+  pub counted : length read ≡ count
+  pub within : used ≤ length s
+  pub so-far : R 0 s ≡ prepended read (R count (drop used s))
+
+-- Lines are read until one is off its form or so many are there, whichever line is the first.
+pub record Gathers (s : List ℕ) (key : String) (n most : ℕ) (r : Gathered) : Type 0 where
+  pub few : r .count ≤ most
+  pub within : r .used ≤ length s
+  pub progress : (at : ℕ) → Progress generatorRoom (rowsLeft key n most at) s (r .rows) (r .count) (r .used)
+  pub ended : r .count < most → (at : ℕ) → rowLine key n at (drop (r .used) s) ≡ stop (Refusal.Form at)
+
+-- The rows that a definition gives are in an array, so many of them, and what is left begins at a place.
+pub record Held (room : ℕ) (s : List ℕ) (used count : ℕ) (rows : List Pauli) (definition : Parsed (List Pauli))
+    : Type 0 where
+  pub read : List Pauli
+  pub held : rows ≡ filled room read
+  pub counted : length read ≡ count
+  pub gives : definition ≡ got read (drop used s)
+
+-- The logicals of one kind are k, or the first line that is missing or off its form is behind those that there are.
+pub record GathersLogicals (s : List ℕ) (key : String) (n k : ℕ) (r : LogicalRows) : Type 0 where
+  pub few : r .count ≤ k
+  pub within : r .used ≤ length s
+  pub short : r .count < k → (at : ℕ) → logicalLines k key n at s ≡ stop (Refusal.Form (at + r .count))
+  pub all : k ≤ r .count → (at : ℕ) → Held logicalRoom s (r .used) (r .count) (r .rows) (logicalLines k key n at s)
+
+-- ---- what the public calls answer
+
+-- How many lines were read before the one that is refused.
+abbrev pub before : RowsAnswer → ℕ
+before (RowsAnswer.Read used) = 0
+before (RowsAnswer.OffForm lines) = lines
+before (RowsAnswer.Miscounted lines) = lines
+
+-- The answer in a sheet, where the first of the lines is the line `at`.
+abbrev pub linesAt : ℕ → RowsAnswer → Lines
+linesAt at (RowsAnswer.Read used) = Lines.Read used
+linesAt at (RowsAnswer.OffForm lines) = Lines.Refused (Refusal.Form (at + lines))
+linesAt at (RowsAnswer.Miscounted lines) = Lines.Refused (Refusal.GeneratorCount (at + lines))
+
+-- The answer for g lines, their count and their rows: what the definition gives, whichever line is the first, and no
+-- rows beside a refusal.
+unfoldable pub rowsAnswer : List ℕ → Parsed (List Pauli) → Lines × ℕ × List Pauli
+rowsAnswer s p = (linesOf s p, length (valueOr [] p), filled generatorRoom (valueOr [] p))
+
+abbrev pub AnswersRows : List ℕ → Rows → (ℕ → Reader (List Pauli)) → Type 0
+AnswersRows s r definition = (at : ℕ) → (linesAt at (r .answer), r .count, r .rows) ≡ rowsAnswer s (definition at s)
+
+abbrev pub noRows : RowsAnswer → Rows
+noRows answer = record { answer = answer; count = 0; rows = replicate generatorRoom identity }
+
+-- RULES, "The sheet": k lines of X logicals, then k lines of Z logicals.
+unfoldable pub pairLines : ℕ → ℕ → ℕ → Reader (List Pauli × List Pauli)
+pairLines k n at =
+    logicalLines k "x=" n at andThen λ xs.
+    logicalLines k "z=" n (at + k) andThen λ zs.
+    done (xs, zs)
+
+-- The answer for x and z lines, and their rows, in the same way.
+unfoldable pub logicalsAnswer : List ℕ → Parsed (List Pauli × List Pauli) → Lines × List Pauli × List Pauli
+logicalsAnswer s p =
+    let rows = valueOr ([], []) p in
+    (linesOf s p, filled logicalRoom (rows .0), filled logicalRoom (rows .1))
+
+abbrev pub AnswersLogicals : List ℕ → Logicals → (ℕ → Reader (List Pauli × List Pauli)) → Type 0
+AnswersLogicals s r definition = (at : ℕ) → (linesAt at (r .answer), r .x, r .z) ≡ logicalsAnswer s (definition at s)
+
+abbrev pub noLogicals : ℕ → Logicals
+noLogicals lines =
+    record {
+      answer = RowsAnswer.OffForm lines;
+      x = replicate logicalRoom identity;
+      z = replicate logicalRoom identity;
+    }

@@ -1,0 +1,213 @@
+// The lines of a sheet's rows: the g lines, and the x and z lines. Each reader is lent the bytes that remain. It does
+// not know on which line they begin, so a refusal has the count of the lines before the one that is refused.
+use code_record::Family;
+use code_record::GENERATOR_ROOM;
+use code_record::LOGICAL_ROOM;
+use code_record::Lines;
+use code_record::MOST_QUBITS;
+use pauli::Pauli;
+ghost use mathlib.Core.Path.{_≡_};
+ghost use Prim.Native.Nat.{ℕ, _*_, _≤_};
+ghost use lib.ListN.{length, take};
+ghost use Rattle.code_record.specs.Record.{generatorRoom, logicalRoom, mostQubits, pairCount, rowKey};
+ghost use Rattle.sheet.specs.Reader.{rowLine, generatorLines};
+ghost use Rattle.lines.specs.Answers.{withinQubits};
+ghost use Rattle.row_lines.specs.Answers.{bytesOf, rowAt, Gathers, GathersLogicals, before, AnswersRows};
+ghost use Rattle.row_lines.specs.Answers.{AnswersLogicals, noRows, noLogicals, pairLines};
+
+// What a line is read as: a row, and how many bytes the line took.
+enum RowRead {
+    Got { used: usize, row: Pauli },
+    OffForm,
+}
+
+// The line of a family's row.
+fn row_line(s: &[u8], family: Family, n: usize) -> RowRead
+    requires { ⌜ n ≤ mostQubits ⌝ }
+    ensures { λ r. ⌜ bytesOf r ≤ length (now (s .entry)) ⌝ }
+    ensures { λ r. ⌜ ((at : ℕ) → rowAt at (now (s .entry)) r ≡ rowLine (rowKey family) n at (now (s .entry))) ⌝ }
+{
+    if !line_parts::begins_row(s, family) {
+        return RowRead::OffForm;
+    }
+    let line = lines::signed_row(s, n, 0);
+    let answer = line.answer;
+    let Lines::Read { used } = answer else {
+        return RowRead::OffForm;
+    };
+    let row = line.row;
+    RowRead::Got { used, row }
+}
+
+// The rows of lines one after the other, how many they are and how many bytes they took.
+struct Gathered {
+    used: usize,
+    count: usize,
+    rows: [Pauli; GENERATOR_ROOM],
+}
+
+// The lines of a family's rows, until one is off its form or `most` are read.
+fn rows_up_to(s: &[u8], family: Family, most: usize, n: usize) -> Gathered
+    requires { ⌜ most ≤ generatorRoom ⌝ }
+    requires { ⌜ n ≤ mostQubits ⌝ }
+    ensures { λ r. ⌜ Gathers (now (s .entry)) (rowKey family) n most r ⌝ }
+{
+    let one = Pauli::identity();
+    let mut rows = [one; GENERATOR_ROOM];
+    let mut count = 0;
+    let mut used = 0;
+    while count < most {
+        let RowRead::Got { used: more, row } = row_line(&s[used..], family, n) else {
+            return Gathered { used, count, rows };
+        };
+        rows[count] = row;
+        count += 1;
+        used += more;
+    }
+    Gathered { used, count, rows }
+}
+
+// Lines of rows were read, and took so many bytes; or one is refused, behind so many that were read.
+pub enum RowsAnswer {
+    Read { used: usize },
+    // the line is off its form, or missing
+    OffForm(usize),
+    // there is no generator, or the line is one too many
+    Miscounted(usize),
+}
+
+// The answer of the reader of the g lines, the count of the generators and their rows; none beside a refusal.
+pub struct Rows {
+    pub answer: RowsAnswer,
+    pub count: usize,
+    pub rows: [Pauli; GENERATOR_ROOM],
+}
+
+impl Rows {
+    fn refused(answer: RowsAnswer) -> Rows
+        ensures { λ r. ⌜ r ≡ noRows answer ⌝ }
+    {
+        let one = Pauli::identity();
+        Rows {
+            answer,
+            count: 0,
+            rows: [one; GENERATOR_ROOM],
+        }
+    }
+}
+
+// The g lines of n qubits, one at least and n - 1 at most. Rows of more qubits than a sheet may have are off their
+// form.
+pub fn generator_lines(s: &[u8], n: usize) -> Rows
+    ensures { λ r. ⌜ before (r .answer) ≤ generatorRoom ⌝ }
+    ensures { λ r. ⌜ AnswersRows (now (s .entry)) r (λ at. withinQubits n at (generatorLines n at)) ⌝ }
+{
+    if MOST_QUBITS < n {
+        return Rows::refused(RowsAnswer::OffForm(0));
+    }
+    let most = code_record::most_generators(n);
+    let read = rows_up_to(s, Family::Generator, most, n);
+    let used = read.used;
+    let count = read.count;
+    if line_parts::begins_row(&s[used..], Family::Generator) {
+        if count < most {
+            return Rows::refused(RowsAnswer::OffForm(count));
+        }
+        return Rows::refused(RowsAnswer::Miscounted(count));
+    }
+    if count == 0 {
+        return Rows::refused(RowsAnswer::Miscounted(0));
+    }
+    let rows = read.rows;
+    Rows {
+        answer: RowsAnswer::Read { used },
+        count,
+        rows,
+    }
+}
+
+// The rows of an array that a record's array of logicals has room for.
+fn logical_rows(rows: [Pauli; GENERATOR_ROOM]) -> [Pauli; LOGICAL_ROOM]
+    ensures { λ r. ⌜ r ≡ take logicalRoom rows ⌝ }
+{
+    let one = Pauli::identity();
+    let mut logicals = [one; LOGICAL_ROOM];
+    for place in 0..LOGICAL_ROOM {
+        let row = rows[place];
+        logicals[place] = row;
+    }
+    logicals
+}
+
+// The logicals of one kind, as rows are gathered.
+struct LogicalRows {
+    used: usize,
+    count: usize,
+    rows: [Pauli; LOGICAL_ROOM],
+}
+
+// The lines of the logicals of one kind, until one is off its form or k are read.
+fn logicals_of(s: &[u8], family: Family, n: usize, k: usize) -> LogicalRows
+    requires { ⌜ n ≤ mostQubits ⌝ }
+    requires { ⌜ k ≤ logicalRoom ⌝ }
+    ensures { λ r. ⌜ GathersLogicals (now (s .entry)) (rowKey family) n k r ⌝ }
+{
+    let read = rows_up_to(s, family, k, n);
+    let gathered = read.rows;
+    LogicalRows {
+        used: read.used,
+        count: read.count,
+        rows: logical_rows(gathered),
+    }
+}
+
+// The answer of the reader of the x and z lines, and their rows; none beside a refusal.
+pub struct Logicals {
+    pub answer: RowsAnswer,
+    pub x: [Pauli; LOGICAL_ROOM],
+    pub z: [Pauli; LOGICAL_ROOM],
+}
+
+impl Logicals {
+    fn off_form(behind: usize) -> Logicals
+        ensures { λ r. ⌜ r ≡ noLogicals behind ⌝ }
+    {
+        let one = Pauli::identity();
+        Logicals {
+            answer: RowsAnswer::OffForm(behind),
+            x: [one; LOGICAL_ROOM],
+            z: [one; LOGICAL_ROOM],
+        }
+    }
+}
+
+// The x and z lines of n qubits and r generators, as many of each as there are pairs of logicals. Rows of more qubits
+// than a sheet may have are off their form.
+pub fn logical_lines(s: &[u8], n: usize, r: usize) -> Logicals
+    ensures { λ q. ⌜ before (q .answer) ≤ 2 * logicalRoom ⌝ }
+    ensures { λ q. ⌜ AnswersLogicals (now (s .entry)) q (λ at. withinQubits n at (pairLines (pairCount n r) n at)) ⌝ }
+{
+    if MOST_QUBITS < n {
+        return Logicals::off_form(0);
+    }
+    let k = code_record::pair_count(n, r);
+    let xs = logicals_of(s, Family::LogicalX, n, k);
+    let count = xs.count;
+    if count < k {
+        return Logicals::off_form(count);
+    }
+    let to_z = xs.used;
+    let zs = logicals_of(&s[to_z..], Family::LogicalZ, n, k);
+    let count = zs.count;
+    if count < k {
+        return Logicals::off_form(k + count);
+    }
+    let used = to_z + zs.used;
+    let x = xs.rows;
+    let z = zs.rows;
+    Logicals {
+        answer: RowsAnswer::Read { used },
+        x,
+        z,
+    }
+}
