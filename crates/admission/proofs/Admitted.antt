@@ -10,9 +10,9 @@ use borrow.Author.Tests.{eqb-true, not-false}
 use Rattle.pauli.specs.Lists.{allOf}
 use Rattle.pauli.specs.Product.{commutes, anticommutes, weight}
 use Rattle.code_record.specs.declared.Code.{Code}
-use Rattle.code_record.specs.declared.Refusal.{Refusal}
+use Rattle.refusals.specs.declared.Refusal.{Refusal}
 use Rattle.code_record.specs.Record.{generators, generatorsAt, isClaim, onQubits, withinLimits}
-use Rattle.code_record.specs.Refusals.{_then_}
+use Rattle.refusals.specs.Refusals.{_then_}
 use Rattle.code_record.proofs.Limits.{both, limits}
 use Rattle.sheet.specs.Reader.{SheetRead, Parsed, got, stop, continue, readLines, readForm, nothingBehind}
 use Rattle.sheet.specs.Statements.{ReadIsLawful}

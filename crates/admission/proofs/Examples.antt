@@ -7,8 +7,8 @@ use Rattle.pauli.specs.declared.Letter.the-variants.{I, X, Y, Z}
 use Rattle.pauli.specs.Letters.{ofLetters}
 use Rattle.pauli.specs.Lists.{bytes}
 use Rattle.pauli.proofs.Table.{each}
-use Rattle.code_record.specs.declared.Family.{Family}
-use Rattle.code_record.specs.declared.Refusal.{Refusal}
+use Rattle.refusals.specs.declared.Family.{Family}
+use Rattle.refusals.specs.declared.Refusal.{Refusal}
 use Rattle.code_record.specs.Record.{emptyCode}
 use Rattle.sheet.specs.Edges.{nineQubits, eightQubits, fourQubits, fiveQubits, sheetC}
 use Rattle.admission.specs.declared.Admission.{Admission}

@@ -8,8 +8,8 @@ use Prim.Native.Nat.{ℕ}
 use lib.Dec.{eqb}
 use Rattle.pauli.specs.Lists.{anyOf}
 use Rattle.code_record.specs.declared.Code.{Code}
-use Rattle.code_record.specs.declared.Refusal.{Refusal}
-use Rattle.code_record.specs.Refusals.{values}
+use Rattle.refusals.specs.declared.Refusal.{Refusal}
+use Rattle.refusals.specs.Refusals.{values}
 use Rattle.sheet.specs.Reader.{SheetRead, Parsed}
 use Rattle.sheet.specs.Statements.{Among}
 use Rattle.sheet.proofs.Consumed.{OfForm}

@@ -15,10 +15,10 @@ use Rattle.pauli.specs.Product.{product, symplectic, commutes, anticommutes, we
 use Rattle.pauli.proofs.Modulo.{same-remainder}
 use Rattle.pauli.proofs.Product.{same-parts}
 use Rattle.code_record.specs.declared.Code.{Code}
-use Rattle.code_record.specs.declared.Refusal.{Refusal}
+use Rattle.refusals.specs.declared.Refusal.{Refusal}
 use Rattle.code_record.specs.Record.{generators, logicalCount, logicalXs, logicalZs, generatorsAt, logicalsAt, claimAt}
 use Rattle.code_record.specs.Record.{longestInput, withinLimits, Sized}
-use Rattle.code_record.specs.Refusals.{_then_}
+use Rattle.refusals.specs.Refusals.{_then_}
 use Rattle.code_record.proofs.Limits.{all-first}
 use Rattle.sheet.specs.Reader.{got, continue, readForm, nothingBehind}
 use Rattle.sheet.specs.Statements.{phasesModulo4}

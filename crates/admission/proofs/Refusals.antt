@@ -8,8 +8,8 @@ use lib.ListN.{length}
 use Rattle.pauli.specs.declared.Letter.{Letter}
 use Rattle.pauli.specs.declared.Pauli.{Pauli}
 use Rattle.code_record.specs.declared.Code.{Code}
-use Rattle.code_record.specs.declared.Family.{Family}
-use Rattle.code_record.specs.declared.Refusal.{Refusal}
+use Rattle.refusals.specs.declared.Family.{Family}
+use Rattle.refusals.specs.declared.Refusal.{Refusal}
 use Rattle.code_record.specs.Record.{generators, generatorsAt, logicalsAt}
 use Rattle.sheet.proofs.Numbers.{IfRefused, refuseIf-lawful, then-lawful}
 use Rattle.stabilizer.specs.Checks.{firstFault, clash, dependence, generatorFault}

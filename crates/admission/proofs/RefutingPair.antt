@@ -15,7 +15,7 @@ use Rattle.pauli.specs.Letters.{ofLetters}
 use Rattle.pauli.specs.Order.{letterWeight, weightOf, Earlier}
 use Rattle.pauli.proofs.Letters.{weight-counts-letters}
 use Rattle.code_record.specs.declared.Code.{Code}
-use Rattle.code_record.specs.declared.Refusal.{Refusal}
+use Rattle.refusals.specs.declared.Refusal.{Refusal}
 use Rattle.sheet.specs.Reader.{SheetRead}
 use Rattle.admission.specs.Admission.{AdmissibleButForDistance, admissionRefusal}
 use Rattle.admission.specs.Admission.{admitted, refusedReading, readingOf, readSheet}

@@ -4,9 +4,9 @@ use mathlib.Core.Option.{Option, none, some}
 use mathlib.Core.Path.{_≡_}
 use Prim.Native.Nat.{ℕ}
 use Rattle.code_record.specs.declared.Code.{Code}
-use Rattle.code_record.specs.declared.Refusal.{Refusal}
+use Rattle.refusals.specs.declared.Refusal.{Refusal}
 use Rattle.code_record.specs.Record.{generators, generatorsAt, emptyCode}
-use Rattle.code_record.specs.Refusals.{_then_}
+use Rattle.refusals.specs.Refusals.{_then_}
 use Rattle.sheet.specs.Reader.{SheetRead, Parsed, got, stop, readForm}
 use Rattle.stabilizer.specs.Checks.{generatorFault}
 use Rattle.admission.specs.declared.Admission.{Admission}

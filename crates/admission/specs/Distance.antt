@@ -13,10 +13,10 @@ use Rattle.pauli.specs.declared.Letter.the-variants.{I}
 use Rattle.pauli.specs.Letters.{ofLetters}
 use Rattle.pauli.specs.Order.{letterWeight, weightOf, stringsUpTo}
 use Rattle.code_record.specs.declared.Code.{Code}
-use Rattle.code_record.specs.declared.ErrorPair.{ErrorPair}
-use Rattle.code_record.specs.declared.Refusal.{Refusal}
+use Rattle.refusals.specs.declared.ErrorPair.{ErrorPair}
+use Rattle.refusals.specs.declared.Refusal.{Refusal}
 use Rattle.code_record.specs.Record.{generators, onQubits}
-use Rattle.code_record.specs.Refusals.{refuseIf}
+use Rattle.refusals.specs.Refusals.{refuseIf}
 use Rattle.stabilizer.specs.Group.{InGroupUpToPhase, inGroupUpToPhase}
 
 -- Each of the four checks is given the line that w stands on, and names it.

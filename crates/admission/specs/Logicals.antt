@@ -9,10 +9,10 @@ use Rattle.pauli.specs.declared.Pauli.{Pauli}
 use Rattle.pauli.specs.Lists.{anyOf}
 use Rattle.pauli.specs.Product.{commutes, anticommutes}
 use Rattle.code_record.specs.declared.Code.{Code}
-use Rattle.code_record.specs.declared.Family.{Family}
-use Rattle.code_record.specs.declared.Refusal.{Refusal}
+use Rattle.refusals.specs.declared.Family.{Family}
+use Rattle.refusals.specs.declared.Refusal.{Refusal}
 use Rattle.code_record.specs.Record.{generators, logicalCount, logicalXs, logicalZs, logicalsAt}
-use Rattle.code_record.specs.Refusals.{refuseIf}
+use Rattle.refusals.specs.Refusals.{refuseIf}
 use Rattle.stabilizer.specs.Checks.{firstFault}
 
 -- The x rows, then the z rows, as their lines follow each other. The rows before one tell its place, and so its family.

@@ -13,9 +13,9 @@ use Rattle.pauli.specs.Order.{weightOf, Earlier}
 use Rattle.pauli.specs.Product.{weight}
 use Rattle.pauli.specs.Statements.{StringOrder}
 use Rattle.code_record.specs.declared.Code.{Code}
-use Rattle.code_record.specs.declared.ErrorPair.{ErrorPair}
-use Rattle.code_record.specs.declared.Refusal.{Refusal}
-use Rattle.code_record.specs.declared.Written.{Written}
+use Rattle.refusals.specs.declared.ErrorPair.{ErrorPair}
+use Rattle.refusals.specs.declared.Refusal.{Refusal}
+use Rattle.refusals.specs.declared.Written.{Written}
 use Rattle.code_record.specs.Record.{claimAt, onQubits, withinLimits, Sized}
 use Rattle.sheet.specs.Reader.{SheetRead}
 use Rattle.sheet.specs.Statements.{Among, phasesModulo4}

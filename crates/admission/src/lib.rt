@@ -1,6 +1,6 @@
 // Admission: the whole reading of a sheet.
 use code_record::Code;
-use code_record::Refusal;
+use refusals::Refusal;
 
 pub enum Admission {
     Admitted,

@@ -1,7 +1,7 @@
 // The canonical generators of a record as text: an `h=` line for each.
 use code_record::Code;
-use code_record::Written;
 use elimination::Checked;
+use refusals::Written;
 ghost use mathlib.Core.Path.{_≡_};
 ghost use Rattle.stabilizer.specs.Canonical.{writeCanonical};
 

@@ -17,8 +17,8 @@ use Rattle.pauli.specs.Lists.{allOf}
 use Rattle.pauli.specs.Product.{identity, samePauli, sameMasks, hasPhase}
 use Rattle.code_record.proofs.Limits.{all-first}
 use Rattle.code_record.specs.declared.Code.{Code}
-use Rattle.code_record.specs.declared.Family.{Family}
-use Rattle.code_record.specs.declared.Family.the-variants.{Generator, LogicalX, LogicalZ}
+use Rattle.refusals.specs.declared.Family.{Family}
+use Rattle.refusals.specs.declared.Family.the-variants.{Generator, LogicalX, LogicalZ}
 use Rattle.code_record.specs.Record.{mostQubits, rowsOf, roomOf, isRow, areRows, Sized}
 
 -- ---- `a && b`: b where a holds, a where it does not

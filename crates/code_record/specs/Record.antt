@@ -4,8 +4,6 @@ use mathlib.Core.List.{List, _++_}
 use mathlib.Core.Option.{Option}
 use mathlib.Core.Path.{_≡_}
 use Prim.Native.Nat.{ℕ, _+_, _-_, _*_, _/_, _^_}
-use Prim.Native.Char.{code}
-use Prim.Native.String.{String}
 use lib.Dec.{leb, ltb}
 use lib.ListN.{length, take, drop, replicate}
 use Rattle.pauli.specs.declared.Pauli.{Pauli}
@@ -14,10 +12,10 @@ use Rattle.pauli.specs.Product.{identity, samePauli}
 use Rattle.pauli.specs.declared.Sign.the-variants.{Plus}
 use Rattle.pauli.specs.Letters.{hasSign, isSignedRow}
 use Rattle.code_record.specs.declared.Code.{Code}
-use Rattle.code_record.specs.declared.Family.{Family}
-use Rattle.code_record.specs.declared.Family.the-variants.{Generator, LogicalX, LogicalZ}
-use Rattle.code_record.specs.declared.Refusal.{Refusal}
-use Rattle.code_record.specs.Refusals.{refuseIf}
+use Rattle.refusals.specs.declared.Family.{Family}
+use Rattle.refusals.specs.declared.Family.the-variants.{Generator, LogicalX, LogicalZ}
+use Rattle.refusals.specs.declared.Refusal.{Refusal}
+use Rattle.refusals.specs.Refusals.{refuseIf}
 
 -- RULES, "The record": the places for generators, and for logicals of each kind; the most qubits; the longest distance.
 abbrev pub generatorRoom : ℕ
@@ -59,8 +57,7 @@ logicalXs c = take (logicalCount c) (c .x)
 unfoldable pub logicalZs : Code → List Pauli
 logicalZs c = take (logicalCount c) (c .z)
 
--- RULES, "The record": a family of rows has its array, its places there, the key of its lines, and the byte that begins
--- the key.
+-- RULES, "The record": a family of rows has its array, and its places there.
 abbrev pub rowsOf : Family → Code → List Pauli
 rowsOf Generator c = c .g
 rowsOf LogicalX c = c .x
@@ -70,16 +67,6 @@ abbrev pub roomOf : Family → ℕ
 roomOf Generator = generatorRoom
 roomOf LogicalX = logicalRoom
 roomOf LogicalZ = logicalRoom
-
-abbrev pub rowKey : Family → String
-rowKey Generator = "g="
-rowKey LogicalX = "x="
-rowKey LogicalZ = "z="
-
-abbrev pub keyByte : Family → ℕ
-keyByte Generator = code "g"
-keyByte LogicalX = code "x"
-keyByte LogicalZ = code "z"
 
 -- RULES, "The sheet": lines count from 1, and are n, d, the generators, the X logicals, the Z logicals, w. So these
 -- lines of a record's written sheet are that of its first generator, of its first X logical, and of w.

@@ -10,9 +10,9 @@ use lib.ListN.{length}
 use Rattle.pauli.specs.declared.Letter.{Letter}
 use Rattle.pauli.specs.Letters.{letterByte}
 use Rattle.code_record.specs.declared.Code.{Code}
-use Rattle.code_record.specs.declared.Refusal.{Refusal}
+use Rattle.refusals.specs.declared.Refusal.{Refusal}
 use Rattle.code_record.specs.Record.{withinLimits, limitsFault}
-use Rattle.code_record.specs.Refusals.{refuseIf, _then_}
+use Rattle.refusals.specs.Refusals.{refuseIf, _then_}
 use Rattle.sheet.specs.Text.{laid, untouched, guarded, roomFault}
 use Rattle.decoder.specs.declared.Decoded.{Decoded}
 use Rattle.decoder.specs.Correction.{correction, corrected, decode}

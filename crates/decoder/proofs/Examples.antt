@@ -6,7 +6,7 @@ use Rattle.pauli.specs.declared.Letter.the-variants.{I, X, Z}
 use Rattle.pauli.specs.Letters.{ofLetters}
 use Rattle.pauli.specs.Lists.{bytes}
 use Rattle.code_record.specs.declared.Code.{Code}
-use Rattle.code_record.specs.declared.Refusal.{Refusal}
+use Rattle.refusals.specs.declared.Refusal.{Refusal}
 use Rattle.code_record.specs.Record.{emptyCode}
 use Rattle.sheet.specs.Edges.{nineQubits, sheetA, sheetK}
 use Rattle.sheet.specs.Text.{untouched}

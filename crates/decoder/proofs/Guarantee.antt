@@ -19,7 +19,7 @@ use Rattle.pauli.proofs.Letters.{weight-counts-letters}
 use Rattle.pauli.proofs.Product.{weight-product-le}
 use Rattle.pauli.proofs.Syndrome.{same-syndrome}
 use Rattle.code_record.specs.declared.Code.{Code}
-use Rattle.code_record.specs.declared.Refusal.{Refusal}
+use Rattle.refusals.specs.declared.Refusal.{Refusal}
 use Rattle.code_record.specs.Record.{generators}
 use Rattle.code_record.proofs.Limits.{limits}
 use Rattle.sheet.specs.Reader.{SheetRead}

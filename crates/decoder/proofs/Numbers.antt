@@ -6,7 +6,7 @@ use mathlib.Core.Path.{refl}
 use Prim.Native.Nat.{ℕ}
 use Rattle.pauli.specs.declared.Letter.{Letter}
 use Rattle.pauli.specs.Lists.{anyOf}
-use Rattle.code_record.specs.declared.Refusal.{Refusal}
+use Rattle.refusals.specs.declared.Refusal.{Refusal}
 use Rattle.sheet.specs.Text.{untouched}
 use Rattle.sheet.proofs.Numbers.{IfRefused, law-of-refusal, refuseIf-lawful, then-lawful}
 use Rattle.sheet.proofs.Numbers.{limits-lawful, room-lawful, guarded-lawful}

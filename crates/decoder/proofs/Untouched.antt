@@ -7,7 +7,7 @@ use Prim.Native.Nat.{ℕ}
 use Rattle.pauli.specs.declared.Pauli.{Pauli}
 use Rattle.pauli.specs.declared.Letter.{Letter}
 use Rattle.code_record.specs.declared.Code.{Code}
-use Rattle.code_record.specs.declared.Refusal.{Refusal}
+use Rattle.refusals.specs.declared.Refusal.{Refusal}
 use Rattle.sheet.specs.Statements.{RefusalLeaves}
 use Rattle.sheet.proofs.Untouched.{answer-leaves, untouched-leaves, guarded-leaves}
 use Rattle.decoder.specs.declared.Decoded.{Decoded}

@@ -9,9 +9,9 @@ use Rattle.pauli.specs.Letters.{ofLetters, letterByte}
 use Rattle.pauli.specs.Order.{stringsUpTo}
 use Rattle.pauli.specs.Syndrome.{syndrome}
 use Rattle.code_record.specs.declared.Code.{Code}
-use Rattle.code_record.specs.declared.Refusal.{Refusal}
+use Rattle.refusals.specs.declared.Refusal.{Refusal}
 use Rattle.code_record.specs.Record.{generators, radius, limitsFault}
-use Rattle.code_record.specs.Refusals.{_then_}
+use Rattle.refusals.specs.Refusals.{_then_}
 use Rattle.sheet.specs.Text.{After, laid, untouched, guarded, roomFault}
 use Rattle.decoder.specs.declared.Decoded.{Decoded}
 use Rattle.decoder.specs.Syndrome.{sameBits, readSyndrome, syndromeFault}

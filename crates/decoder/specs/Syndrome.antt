@@ -10,9 +10,9 @@ use Rattle.pauli.specs.declared.Pauli.{Pauli}
 use Rattle.pauli.specs.Lists.{readByte}
 use Rattle.pauli.specs.Syndrome.{syndrome}
 use Rattle.code_record.specs.declared.Code.{Code}
-use Rattle.code_record.specs.declared.Refusal.{Refusal}
+use Rattle.refusals.specs.declared.Refusal.{Refusal}
 use Rattle.code_record.specs.Record.{generators, limitsFault}
-use Rattle.code_record.specs.Refusals.{refuseIf, _then_}
+use Rattle.refusals.specs.Refusals.{refuseIf, _then_}
 use Rattle.sheet.specs.Reader.{readEach}
 use Rattle.sheet.specs.Text.{After, laid, guarded, roomFault}
 use Rattle.decoder.specs.declared.SyndromeAnswer.{SyndromeAnswer}

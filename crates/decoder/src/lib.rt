@@ -1,5 +1,5 @@
 // The decoder: syndromes and corrections.
-use code_record::Refusal;
+use refusals::Refusal;
 
 // The syndrome stands in the output buffer, or the call was refused.
 pub enum SyndromeAnswer {

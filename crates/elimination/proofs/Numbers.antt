@@ -4,7 +4,7 @@ use mathlib.Core.Option.{Option, none, some}
 use mathlib.Core.Path.{_≡_, refl, sym, _∙_}
 use Prim.Native.Nat.{ℕ}
 use Rattle.pauli.specs.declared.Pauli.{Pauli}
-use Rattle.code_record.specs.declared.Refusal.{Refusal}
+use Rattle.refusals.specs.declared.Refusal.{Refusal}
 use Rattle.stabilizer.proofs.Theorems.{canonical-refusal-numbers}
 use Rattle.elimination.specs.Answers.{checkedRefusal, eliminated, elimination}
 use Rattle.elimination.specs.Statements.{EliminationRefusalNumbers}

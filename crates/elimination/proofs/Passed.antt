@@ -6,7 +6,7 @@ use mathlib.Core.Path.{_≡_, refl, ap, sym, _∙_}
 use lib.ListN.{take}
 use borrow.Author.Tests.{not-false}
 use Rattle.code_record.specs.declared.Code.{Code}
-use Rattle.code_record.specs.declared.Refusal.{Refusal}
+use Rattle.refusals.specs.declared.Refusal.{Refusal}
 use Rattle.code_record.specs.Record.{isRow, onQubits, generators, generatorsAt, withinLimits, limitsFault}
 use Rattle.code_record.proofs.Limits.{limits}
 use Rattle.stabilizer.specs.Canonical.{reducesToIdentity, canonicalGenerators}

@@ -9,10 +9,10 @@ use lib.ListN.{length, take, getD, length-take}
 use lib.Seq.{getD-take}
 use Rattle.pauli.specs.declared.Pauli.{Pauli}
 use Rattle.pauli.specs.Product.{identity, sameMasks, samePauli}
-use Rattle.code_record.specs.declared.Family.{Family}
-use Rattle.code_record.specs.declared.Refusal.{Refusal}
+use Rattle.refusals.specs.declared.Family.{Family}
+use Rattle.refusals.specs.declared.Refusal.{Refusal}
 use Rattle.code_record.specs.Record.{generatorRoom, isRow}
-use Rattle.code_record.specs.Refusals.{_then_}
+use Rattle.refusals.specs.Refusals.{_then_}
 use Rattle.stabilizer.specs.Canonical.{reduced, reducesToIdentity, added, canonicalGenerators}
 use Rattle.stabilizer.specs.Checks.{minusIdentity, firstFault, dependence}
 use Rattle.stabilizer.proofs.All.{All, all-at, all-places}

@@ -11,8 +11,8 @@ use lib.ListN.{length, take, drop, getD}
 use lib.Seq.{take-suc}
 use Rattle.pauli.specs.declared.Pauli.{Pauli}
 use Rattle.pauli.specs.Product.{identity}
-use Rattle.code_record.specs.declared.Refusal.{Refusal}
-use Rattle.code_record.specs.Refusals.{_then_}
+use Rattle.refusals.specs.declared.Refusal.{Refusal}
+use Rattle.refusals.specs.Refusals.{_then_}
 use Rattle.stabilizer.specs.Checks.{firstFault}
 use Rattle.reduced_rows.proofs.FirstRows.{taken-at, taken-end}
 

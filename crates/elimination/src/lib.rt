@@ -2,10 +2,10 @@
 // the row is to those before it. 7 and 8 and the canonical generators follow from it; 6, which comes before them,
 // compares rows two by two.
 use code_record::Code;
-use code_record::Family;
-use code_record::Refusal;
 use reduced_rows::Kind;
 use reduced_rows::ReducedRows;
+use refusals::Family;
+use refusals::Refusal;
 ghost use mathlib.Core.Bool.{true};
 ghost use mathlib.Core.List.{[]};
 ghost use mathlib.Core.Option.{none, some};

@@ -11,8 +11,8 @@ use lib.ListN.{take}
 use denote.Enum.Declared.{tagOf}
 use types.Run.{OneOf, miss}
 use Rattle.pauli.specs.Lists.{bytes, readByte, firstOf}
-use Rattle.code_record.specs.declared.Family.{Family}
-use Rattle.code_record.specs.Record.{rowKey}
+use Rattle.refusals.specs.declared.Family.{Family}
+use Rattle.refusals.specs.Families.{rowKey}
 use Rattle.code_record.proofs.Limits.{both}
 use Rattle.sheet.specs.Reader.{begins}
 use Rattle.sheet.proofs.Values.{readByte-byte}

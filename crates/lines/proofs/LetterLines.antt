@@ -15,7 +15,7 @@ use Rattle.pauli.specs.declared.Pauli.{Pauli}
 use Rattle.pauli.specs.declared.Sign.{Sign}
 use Rattle.pauli.specs.Letters.{readLetter, readSign, rowOf, signedRow, ofLetters}
 use Rattle.pauli.specs.Lists.{bytes}
-use Rattle.code_record.specs.declared.Refusal.{Refusal}
+use Rattle.refusals.specs.declared.Refusal.{Refusal}
 use Rattle.code_record.specs.Record.{mostQubits}
 use Rattle.sheet.specs.Reader.{Reader, got, stop, gotOr, readEach, readLetters, readRow, lineOf, claimLine}
 use Rattle.sheet.specs.Text.{lineFeed}

@@ -9,9 +9,10 @@ use borrow.Author.Tests.{eqb-true, eq-eqb, le-ltb, lt-ltb}
 use lib.Dec.{eqb}
 use lib.ListN.{length, take, drop, getD, length-take, length-drop}
 use Rattle.pauli.specs.Lists.{bytes}
-use Rattle.code_record.specs.declared.Family.{Family}
-use Rattle.code_record.specs.declared.Refusal.{Refusal}
-use Rattle.code_record.specs.Record.{mostQubits, mostDistance, rowKey}
+use Rattle.refusals.specs.declared.Family.{Family}
+use Rattle.refusals.specs.declared.Refusal.{Refusal}
+use Rattle.code_record.specs.Record.{mostQubits, mostDistance}
+use Rattle.refusals.specs.Families.{rowKey}
 use Rattle.sheet.specs.Reader.{Parsed, Reader, got, stop, continue, begins, gotOr, readRow, inRange}
 use Rattle.sheet.specs.Reader.{isLine, lineOf, readNumber, qubitDigits, qubitLine, distanceLine, rowLine}
 use Rattle.sheet.specs.Text.{lineFeed}

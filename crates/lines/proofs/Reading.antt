@@ -7,8 +7,8 @@ use Prim.Native.Nat.{ℕ, _-_, _<_, _≤_}
 use native.Mathlib.Omega.{arith}
 use lib.ListN.{length, drop, length-drop}
 use Rattle.pauli.specs.declared.Pauli.{Pauli}
-use Rattle.code_record.specs.declared.Lines.{Lines}
-use Rattle.code_record.specs.declared.Refusal.{Refusal}
+use Rattle.refusals.specs.declared.Lines.{Lines}
+use Rattle.refusals.specs.declared.Refusal.{Refusal}
 use Rattle.code_record.proofs.Limits.{bounds-between, outside-between}
 use Rattle.sheet.specs.Reader.{Parsed, Reader, got, stop, done, continue, inRange}
 use Rattle.lines.specs.Answers.{linesOf, valueOr, numberAnswer, rowAnswer}

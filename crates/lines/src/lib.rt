@@ -1,15 +1,15 @@
 // The readers of a sheet's single lines. Each is lent the bytes that remain, and answers how many of them the line
 // took, or the refusal that ends the reading, with the line's value beside it.
-use code_record::Lines;
 use code_record::MOST_DISTANCE;
 use code_record::MOST_QUBITS;
-use code_record::Refusal;
 use line_parts::Letters;
 use line_parts::LineKind;
 use line_parts::Number;
 use pauli::Pauli;
 use pauli::Sign;
 use pauli::SignRead;
+use refusals::Lines;
+use refusals::Refusal;
 ghost use mathlib.Core.Path.{_≡_};
 ghost use mathlib.Core.List.{List};
 ghost use Prim.Native.Nat.{ℕ, _≤_};

@@ -2,7 +2,7 @@
 use mathlib.Core.Option.{Option, none, some}
 use mathlib.Core.Path.{_≡_, refl, sym, _∙_}
 use Rattle.pauli.specs.declared.Sign.{Sign}
-use Rattle.code_record.specs.declared.Refusal.{Refusal}
+use Rattle.refusals.specs.declared.Refusal.{Refusal}
 use Rattle.stabilizer.proofs.Theorems.{canonical-refusal-numbers}
 use Rattle.membership.specs.Answers.{membershipRefusal, memberAnswer, membership}
 use Rattle.membership.specs.Statements.{MembershipRefusalNumbers}

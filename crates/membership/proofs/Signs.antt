@@ -7,7 +7,7 @@ use Rattle.pauli.specs.declared.Sign.the-variants.{Plus, Minus}
 use Rattle.pauli.specs.Letters.{rowOf}
 use Rattle.pauli.specs.Product.{identity, sameMasks, samePauli}
 use Rattle.code_record.specs.declared.Code.{Code}
-use Rattle.code_record.specs.declared.Refusal.{Refusal}
+use Rattle.refusals.specs.declared.Refusal.{Refusal}
 use Rattle.code_record.specs.Record.{generators}
 use Rattle.stabilizer.specs.Canonical.{reduced, canonicalGenerators}
 use Rattle.stabilizer.specs.Checks.{minusIdentity}

@@ -4,7 +4,7 @@ use Rattle.pauli.specs.declared.Pauli.{Pauli}
 use Rattle.pauli.specs.declared.Sign.{Sign}
 use Rattle.pauli.specs.declared.Sign.the-variants.{Plus, Minus}
 use Rattle.code_record.specs.declared.Code.{Code}
-use Rattle.code_record.specs.declared.Refusal.{Refusal}
+use Rattle.refusals.specs.declared.Refusal.{Refusal}
 use Rattle.code_record.specs.Record.{generators}
 use Rattle.stabilizer.specs.Checks.{groupFault}
 use Rattle.stabilizer.specs.Group.{memberSign}

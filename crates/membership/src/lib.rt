@@ -1,10 +1,10 @@
 // Membership in the group of a record's generators, with its sign.
 use code_record::Code;
-use code_record::Refusal;
 use elimination::Checked;
 use pauli::Pauli;
 use pauli::Sign;
 use reduced_rows::Kind;
+use refusals::Refusal;
 ghost use mathlib.Core.Path.{_≡_};
 ghost use Rattle.membership.specs.Answers.{kindMember, membership};
 

@@ -9,8 +9,8 @@ use native.Mathlib.Decide.{decLt}
 use native.Mathlib.Omega.{arith}
 use lib.Dec.{ltb}
 use lib.ListN.{length, length-append}
-use Rattle.code_record.specs.declared.Refusal.{Refusal}
-use Rattle.code_record.specs.declared.Written.{Written}
+use Rattle.refusals.specs.declared.Refusal.{Refusal}
+use Rattle.refusals.specs.declared.Written.{Written}
 use Rattle.sheet.specs.Text.{lineFeed, digitsOf, decimal, laid, untouched}
 use Rattle.sheet.proofs.Lengths.{decimal-snoc, length-decimal-one}
 use Rattle.sheet.proofs.WrittenText.{written-short, written-whole}

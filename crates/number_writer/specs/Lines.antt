@@ -2,7 +2,7 @@
 use mathlib.Core.List.{List, [], _∷_, _++_}
 use mathlib.Core.Option.{none}
 use Prim.Native.Nat.{ℕ}
-use Rattle.code_record.specs.declared.Written.{Written}
+use Rattle.refusals.specs.declared.Written.{Written}
 use Rattle.sheet.specs.Text.{decimal, lineFeed, After, written}
 
 -- RULES, "The sheet": the line of a number, by the bytes of its key.

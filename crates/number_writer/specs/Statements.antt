@@ -5,8 +5,8 @@ use mathlib.Core.Path.{_≡_}
 use Prim.Native.Nat.{ℕ}
 use Prim.Native.String.{String}
 use Rattle.pauli.specs.Lists.{bytes}
-use Rattle.code_record.specs.declared.Refusal.{Refusal}
-use Rattle.code_record.specs.Refusals.{writtenRefusal}
+use Rattle.refusals.specs.declared.Refusal.{Refusal}
+use Rattle.refusals.specs.Refusals.{writtenRefusal}
 use Rattle.sheet.specs.Statements.{RefusalLeaves, Among}
 use Rattle.sheet.specs.Text.{line, decimal}
 use Rattle.number_writer.specs.Lines.{numberText, writeNumber}

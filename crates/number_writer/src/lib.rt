@@ -1,6 +1,6 @@
 // The writer of a number: how many digits it has, and its line with any key.
-use code_record::Refusal;
-use code_record::Written;
+use refusals::Refusal;
+use refusals::Written;
 ghost use mathlib.Core.Path.{_≡_};
 ghost use Prim.Native.Nat.{_≤_};
 ghost use lib.ListN.{length};

@@ -6,8 +6,8 @@ use native.Mathlib.Omega.{arith}
 use lib.ListN.{length, take, drop, length-append, length-drop}
 use lib.Seq.{drop-drop, drop-at}
 use Rattle.pauli.specs.declared.Pauli.{Pauli}
-use Rattle.code_record.specs.declared.Lines.{Lines}
-use Rattle.code_record.specs.declared.Refusal.{Refusal}
+use Rattle.refusals.specs.declared.Lines.{Lines}
+use Rattle.refusals.specs.declared.Refusal.{Refusal}
 use Rattle.pauli.specs.Product.{identity}
 use Rattle.code_record.specs.Record.{mostQubits}
 use Rattle.sheet.specs.Reader.{Parsed, Reader, got, stop, done, generatorLines, claimLine}

@@ -4,9 +4,9 @@ use mathlib.Core.Path.{_≡_, refl, ap, sym, _∙_}
 use Prim.Native.Nat.{ℕ, _+_, _*_, _≤_}
 use lib.ListN.{length, drop}
 use Rattle.pauli.specs.declared.Pauli.{Pauli}
-use Rattle.code_record.specs.declared.Lines.{Lines}
+use Rattle.refusals.specs.declared.Lines.{Lines}
 use Rattle.code_record.specs.declared.LinesReading.{LinesReading}
-use Rattle.code_record.specs.declared.Refusal.{Refusal}
+use Rattle.refusals.specs.declared.Refusal.{Refusal}
 use Rattle.code_record.specs.Record.{pairCount, codeOf}
 use Rattle.sheet.specs.Reader.{Parsed, Reader, SheetRead, got, stop, done, continue, answered}
 use Rattle.sheet.specs.Reader.{logicalLines, claimLine, linesAfter}

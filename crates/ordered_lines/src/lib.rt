@@ -2,9 +2,9 @@
 // and goes on with the next, or ends the reading with a refusal.
 use code_record::Code;
 use code_record::FIRST_GENERATOR_AT;
-use code_record::Lines;
 use code_record::LinesReading;
-use code_record::Refusal;
+use refusals::Lines;
+use refusals::Refusal;
 use row_lines::Logicals;
 use row_lines::Rows;
 use row_lines::RowsAnswer;

@@ -4,9 +4,9 @@ use mathlib.Core.Path.{_≡_, refl, ap}
 use Prim.Native.Nat.{ℕ, suc, _+_, _-_, _<_, _≤_}
 use native.Mathlib.Omega.{arith}
 use lib.ListN.{length}
-use Rattle.code_record.specs.declared.Lines.{Lines}
+use Rattle.refusals.specs.declared.Lines.{Lines}
 use Rattle.code_record.specs.declared.LinesReading.{LinesReading}
-use Rattle.code_record.specs.declared.Refusal.{Refusal}
+use Rattle.refusals.specs.declared.Refusal.{Refusal}
 use Rattle.code_record.specs.Record.{pairCount, logicalCount, generatorsAt, logicalsAt, claimAt}
 use Rattle.code_record.proofs.Limits.{limits}
 use Rattle.sheet.specs.Reader.{Parsed, SheetRead, got, stop, continue, nothingBehind, answered}

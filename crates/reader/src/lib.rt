@@ -1,9 +1,9 @@
 // The reader of a sheet, with anything behind it or by itself. A reading answers how many bytes the lines took, or the
 // refusal that ended it.
 use code_record::LONGEST_INPUT;
-use code_record::Lines;
 use code_record::LinesReading;
-use code_record::Refusal;
+use refusals::Lines;
+use refusals::Refusal;
 ghost use mathlib.Core.Path.{_≡_};
 ghost use Rattle.sheet.specs.Reader.{linesReading, formReading, behind};
 

@@ -10,9 +10,9 @@ use lib.ListN.{length, length-append}
 use Rattle.pauli.specs.declared.Letter.{Letter}
 use Rattle.pauli.specs.Lists.{bytes}
 use Rattle.code_record.specs.declared.Code.{Code}
-use Rattle.code_record.specs.declared.Refusal.{Refusal}
+use Rattle.refusals.specs.declared.Refusal.{Refusal}
 use Rattle.code_record.specs.Record.{generatorsAt, pairCount, logicalCount, logicalsAt, claimAt, Sized}
-use Rattle.code_record.specs.Refusals.{values}
+use Rattle.refusals.specs.Refusals.{values}
 use Rattle.code_record.proofs.Limits.{Limits}
 use Rattle.sheet.proofs.Lengths.{length-line, length-letterText, length-generators, length-logicalXs, length-logicalZs}
 use Rattle.sheet.proofs.Numbers.{IfRefused}

@@ -12,7 +12,7 @@ use lib.Dec.{lit≤, eqb, ltb}
 use lib.ListN.{length, take, drop}
 use Rattle.pauli.specs.declared.Pauli.{Pauli}
 use Rattle.pauli.specs.Lists.{bytes}
-use Rattle.code_record.specs.declared.Refusal.{Refusal}
+use Rattle.refusals.specs.declared.Refusal.{Refusal}
 use Rattle.code_record.specs.Record.{mostQubits, mostDistance, longestInput, firstGeneratorAt, pairCount}
 use Rattle.code_record.specs.Record.{mostGenerators}
 use Rattle.code_record.specs.Record.{between}

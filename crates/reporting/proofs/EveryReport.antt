@@ -11,7 +11,7 @@ use native.Mathlib.Nat.{ℕ-set}
 use native.Mathlib.Omega.{arith}
 use lib.ListN.{length, length-append}
 use Rattle.code_record.specs.declared.Code.{Code}
-use Rattle.code_record.specs.declared.Refusal.{Refusal}
+use Rattle.refusals.specs.declared.Refusal.{Refusal}
 use Rattle.sheet.specs.Reader.{SheetRead, Parsed, got, stop, continue, readLines, nothingBehind, readForm}
 use Rattle.sheet.specs.Writer.{sheetText}
 use Rattle.sheet.proofs.Lengths.{sheetText-le}

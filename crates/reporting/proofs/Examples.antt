@@ -12,8 +12,8 @@ use Rattle.pauli.specs.Letters.{signedRow, ofLetters}
 use Rattle.pauli.specs.Lists.{bytes}
 use Rattle.pauli.proofs.Table.{each}
 use Rattle.code_record.specs.declared.Code.{Code}
-use Rattle.code_record.specs.declared.Refusal.{Refusal}
-use Rattle.code_record.specs.declared.Written.{Written}
+use Rattle.refusals.specs.declared.Refusal.{Refusal}
+use Rattle.refusals.specs.declared.Written.{Written}
 use Rattle.code_record.specs.Record.{codeOf}
 use Rattle.sheet.specs.Edges.{nineQubits, eightQubits, fourQubits, sheetC, sheetK}
 use Rattle.sheet.specs.Text.{lineFeed, untouched}

@@ -13,9 +13,9 @@ use Rattle.pauli.specs.declared.Letter.{Letter}
 use Rattle.pauli.specs.Letters.{letterByte}
 use Rattle.pauli.specs.Lists.{bytes}
 use Rattle.code_record.specs.declared.Code.{Code}
-use Rattle.code_record.specs.declared.Refusal.{Refusal}
+use Rattle.refusals.specs.declared.Refusal.{Refusal}
 use Rattle.code_record.specs.Record.{generators, pairCount, logicalCount, radius, mostQubits, longestInput, Sized}
-use Rattle.code_record.specs.Refusals.{values}
+use Rattle.refusals.specs.Refusals.{values}
 use Rattle.code_record.proofs.Limits.{Limits, limits}
 use Rattle.sheet.specs.Reader.{SheetRead, Parsed, got, stop, readLines}
 use Rattle.sheet.specs.Statements.{ReadIsLawful}

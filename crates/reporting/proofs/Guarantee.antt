@@ -10,10 +10,10 @@ use lib.ListN.{length}
 use Rattle.pauli.specs.Lists.{bytes}
 use Rattle.pauli.specs.Syndrome.{syndrome}
 use Rattle.code_record.specs.declared.Code.{Code}
-use Rattle.code_record.specs.declared.ErrorPair.{ErrorPair}
-use Rattle.code_record.specs.declared.Refusal.{Refusal}
+use Rattle.refusals.specs.declared.ErrorPair.{ErrorPair}
+use Rattle.refusals.specs.declared.Refusal.{Refusal}
 use Rattle.code_record.specs.Record.{generators, longestInput}
-use Rattle.code_record.specs.Refusals.{values, _then_}
+use Rattle.refusals.specs.Refusals.{values, _then_}
 use Rattle.sheet.specs.Reader.{SheetRead}
 use Rattle.sheet.specs.Text.{lineFeed, line, digitsOf, decimal}
 use Rattle.stabilizer.proofs.All.{all-every, all-mapped}

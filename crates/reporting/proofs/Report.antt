@@ -10,7 +10,7 @@ use lib.ListN.{length}
 use Rattle.pauli.specs.Lists.{anyOf}
 use Rattle.pauli.specs.declared.Letter.{Letter}
 use Rattle.code_record.specs.declared.Code.{Code}
-use Rattle.code_record.specs.declared.Refusal.{Refusal}
+use Rattle.refusals.specs.declared.Refusal.{Refusal}
 use Rattle.code_record.specs.Record.{longestInput}
 use Rattle.sheet.specs.Reader.{SheetRead, got, readLines}
 use Rattle.sheet.specs.Statements.{ReadIsLawful}

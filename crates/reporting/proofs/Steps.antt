@@ -9,7 +9,7 @@ use lib.ListN.{length, take, drop, length-append}
 use lib.Seq.{drop-append-seam, take-append-seam}
 use Rattle.pauli.specs.Lists.{bytes}
 use Rattle.code_record.specs.declared.Code.{Code}
-use Rattle.code_record.specs.declared.Refusal.{Refusal}
+use Rattle.refusals.specs.declared.Refusal.{Refusal}
 use Rattle.sheet.specs.Reader.{Parsed, got, stop, Reader, continue, done}
 use Rattle.sheet.specs.Text.{lineFeed, line}
 use Rattle.sheet.proofs.Line.{line-outcome}

@@ -8,7 +8,7 @@ use native.Mathlib.Omega.{arith}
 use lib.ListN.{length, length-append, length-map}
 use Rattle.pauli.specs.Lists.{bytes}
 use Rattle.code_record.specs.declared.Code.{Code}
-use Rattle.code_record.specs.declared.Refusal.{Refusal}
+use Rattle.refusals.specs.declared.Refusal.{Refusal}
 use Rattle.sheet.specs.Reader.{got, done, _andThen_}
 use Rattle.sheet.proofs.Lengths.{length-line}
 use Rattle.sheet.proofs.Line.{line-outcome, line-returns}

@@ -8,10 +8,10 @@ use Rattle.pauli.specs.Lists.{bytes}
 use Rattle.pauli.specs.declared.Letter.{Letter}
 use Rattle.pauli.specs.Letters.{letterByte, letterText}
 use Rattle.code_record.specs.declared.Code.{Code}
-use Rattle.code_record.specs.declared.ErrorPair.{ErrorPair}
-use Rattle.code_record.specs.declared.Refusal.{Refusal}
-use Rattle.code_record.specs.declared.Written.{Written}
-use Rattle.code_record.specs.Refusals.{values}
+use Rattle.refusals.specs.declared.ErrorPair.{ErrorPair}
+use Rattle.refusals.specs.declared.Refusal.{Refusal}
+use Rattle.refusals.specs.declared.Written.{Written}
+use Rattle.refusals.specs.Refusals.{values}
 use Rattle.code_record.specs.Record.{logicalCount, radius}
 use Rattle.sheet.specs.Text.{line, decimal, After, written}
 use Rattle.sheet.specs.Reader.{SheetRead, Reader, Parsed, got, stop, done, _andThen_, readLine, readLines}

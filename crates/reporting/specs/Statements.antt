@@ -12,11 +12,11 @@ use Rattle.pauli.specs.Lists.{bytes}
 use Rattle.pauli.specs.Product.{weight}
 use Rattle.pauli.specs.Syndrome.{syndrome}
 use Rattle.code_record.specs.declared.Code.{Code}
-use Rattle.code_record.specs.declared.ErrorPair.{ErrorPair}
-use Rattle.code_record.specs.declared.Refusal.{Refusal}
-use Rattle.code_record.specs.declared.Written.{Written}
+use Rattle.refusals.specs.declared.ErrorPair.{ErrorPair}
+use Rattle.refusals.specs.declared.Refusal.{Refusal}
+use Rattle.refusals.specs.declared.Written.{Written}
 use Rattle.code_record.specs.Record.{generators, onQubits, radius, longestInput}
-use Rattle.code_record.specs.Refusals.{writtenRefusal}
+use Rattle.refusals.specs.Refusals.{writtenRefusal}
 use Rattle.sheet.specs.Reader.{SheetRead, got, stop, readLines, readForm}
 use Rattle.sheet.specs.Statements.{RefusalLeaves, Among}
 use Rattle.sheet.specs.Text.{line, decimal, laid, untouched}

@@ -12,7 +12,7 @@ use lib.Seq.{take-append-add}
 use Rattle.pauli.specs.declared.Pauli.{Pauli}
 use Rattle.pauli.specs.Lists.{bytes}
 use Rattle.pauli.specs.Product.{identity}
-use Rattle.code_record.specs.declared.Refusal.{Refusal}
+use Rattle.refusals.specs.declared.Refusal.{Refusal}
 use Rattle.code_record.specs.Record.{generatorRoom, logicalRoom, mostGenerators, filled}
 use Rattle.sheet.specs.Reader.{got, stop, begins, rowsUpTo, generatorLines, countedGenerators}
 use Rattle.sheet.specs.Reader.{logicalLines, countedLogicals}

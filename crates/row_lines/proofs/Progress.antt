@@ -7,7 +7,7 @@ use lib.ListN.{length, drop, set, replicate, length-append, length-drop}
 use lib.Seq.{drop-drop}
 use Rattle.pauli.specs.declared.Pauli.{Pauli}
 use Rattle.pauli.specs.Product.{identity}
-use Rattle.code_record.specs.declared.Refusal.{Refusal}
+use Rattle.refusals.specs.declared.Refusal.{Refusal}
 use Rattle.code_record.specs.Record.{filled}
 use Rattle.code_record.proofs.Filled.{filled-more}
 use Rattle.sheet.specs.Reader.{Parsed, Reader, got, stop, done, continue}

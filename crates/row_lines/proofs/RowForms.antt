@@ -9,10 +9,11 @@ use native.Mathlib.Omega.{arith}
 use lib.ListN.{length, drop, length-drop}
 use Rattle.pauli.specs.declared.Pauli.{Pauli}
 use Rattle.pauli.specs.Lists.{bytes}
-use Rattle.code_record.specs.declared.Family.{Family}
-use Rattle.code_record.specs.declared.Lines.{Lines}
-use Rattle.code_record.specs.declared.Refusal.{Refusal}
-use Rattle.code_record.specs.Record.{mostQubits, rowKey}
+use Rattle.refusals.specs.declared.Family.{Family}
+use Rattle.refusals.specs.declared.Lines.{Lines}
+use Rattle.refusals.specs.declared.Refusal.{Refusal}
+use Rattle.code_record.specs.Record.{mostQubits}
+use Rattle.refusals.specs.Families.{rowKey}
 use Rattle.sheet.specs.Reader.{got, stop, begins, readRow, rowLine}
 use Rattle.lines.specs.declared.RowLine.{RowLine}
 use Rattle.lines.specs.Answers.{valueFrom, linesOf, valueOr, rowAnswer, rowBehindKey, withinQubits}

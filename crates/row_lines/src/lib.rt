@@ -1,15 +1,16 @@
 // The lines of a sheet's rows: the g lines, and the x and z lines. Each reader is lent the bytes that remain. It does
 // not know on which line they begin, so a refusal has the count of the lines before the one that is refused.
-use code_record::Family;
 use code_record::GENERATOR_ROOM;
 use code_record::LOGICAL_ROOM;
-use code_record::Lines;
 use code_record::MOST_QUBITS;
 use pauli::Pauli;
+use refusals::Family;
+use refusals::Lines;
 ghost use mathlib.Core.Path.{_≡_};
 ghost use Prim.Native.Nat.{ℕ, _*_, _≤_};
 ghost use lib.ListN.{length, take};
-ghost use Rattle.code_record.specs.Record.{generatorRoom, logicalRoom, mostQubits, pairCount, rowKey};
+ghost use Rattle.code_record.specs.Record.{generatorRoom, logicalRoom, mostQubits, pairCount};
+ghost use Rattle.refusals.specs.Families.{rowKey};
 ghost use Rattle.sheet.specs.Reader.{rowLine, generatorLines};
 ghost use Rattle.lines.specs.Answers.{withinQubits};
 ghost use Rattle.row_lines.specs.Answers.{bytesOf, rowAt, Gathers, GathersLogicals, before, AnswersRows};

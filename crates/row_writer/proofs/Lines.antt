@@ -14,8 +14,8 @@ use Rattle.pauli.specs.declared.Pauli.{Pauli}
 use Rattle.pauli.specs.Letters.{letterByte, letterText, letterOn, lettersOf, rowText, signByte, signOf}
 use Rattle.pauli.specs.Lists.{bytes}
 use Rattle.pauli.proofs.Letters.{letters-at}
-use Rattle.code_record.specs.declared.Refusal.{Refusal}
-use Rattle.code_record.specs.declared.Written.{Written}
+use Rattle.refusals.specs.declared.Refusal.{Refusal}
+use Rattle.refusals.specs.declared.Written.{Written}
 use Rattle.code_record.specs.Record.{mostQubits, between}
 use Rattle.code_record.proofs.Limits.{bounds-between}
 use Rattle.sheet.specs.Text.{laid, line, lineFeed, untouched, written}

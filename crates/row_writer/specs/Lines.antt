@@ -6,10 +6,10 @@ use Prim.Native.Nat.{ℕ}
 use Prim.Native.Char.{code}
 use Rattle.pauli.specs.declared.Pauli.{Pauli}
 use Rattle.pauli.specs.Letters.{letterText, rowText}
-use Rattle.code_record.specs.declared.Refusal.{Refusal}
-use Rattle.code_record.specs.declared.Written.{Written}
+use Rattle.refusals.specs.declared.Refusal.{Refusal}
+use Rattle.refusals.specs.declared.Written.{Written}
 use Rattle.code_record.specs.Record.{mostQubits, between}
-use Rattle.code_record.specs.Refusals.{refuseIf}
+use Rattle.refusals.specs.Refusals.{refuseIf}
 use Rattle.sheet.specs.Text.{lineFeed, After, written}
 
 -- The letters of a row and the line feed, with which both lines end.

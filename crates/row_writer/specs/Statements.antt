@@ -8,8 +8,8 @@ use Prim.Native.String.{String}
 use Rattle.pauli.specs.declared.Pauli.{Pauli}
 use Rattle.pauli.specs.Letters.{letterText, rowText}
 use Rattle.pauli.specs.Lists.{bytes}
-use Rattle.code_record.specs.declared.Refusal.{Refusal}
-use Rattle.code_record.specs.Refusals.{writtenRefusal}
+use Rattle.refusals.specs.declared.Refusal.{Refusal}
+use Rattle.refusals.specs.Refusals.{writtenRefusal}
 use Rattle.sheet.specs.Statements.{RefusalLeaves, Among}
 use Rattle.sheet.specs.Text.{line}
 use Rattle.row_writer.specs.Lines.{rowLineText, writeRow, lettersLineText, writeLetters}

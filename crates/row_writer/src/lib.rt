@@ -1,8 +1,8 @@
 // The writers of one row's line: with its sign, as the rows of a sheet and of its canonical generators have it; and
 // without, as w has it and every error and correction.
-use code_record::Refusal;
-use code_record::Written;
 use pauli::Pauli;
+use refusals::Refusal;
+use refusals::Written;
 ghost use mathlib.Core.Path.{_≡_};
 ghost use Prim.Native.Nat.{_≤_, _<_};
 ghost use lib.ListN.{length};

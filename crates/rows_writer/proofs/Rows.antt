@@ -13,7 +13,7 @@ use Rattle.pauli.specs.declared.Pauli.{Pauli}
 use Rattle.pauli.specs.Letters.{rowText}
 use Rattle.pauli.specs.Lists.{bytes}
 use Rattle.pauli.specs.Product.{identity}
-use Rattle.code_record.specs.declared.Written.{Written}
+use Rattle.refusals.specs.declared.Written.{Written}
 use Rattle.code_record.specs.Record.{mostQubits}
 use Rattle.sheet.specs.Text.{line, lineFeed, laid}
 use Rattle.sheet.specs.Writer.{rowLines}

@@ -2,7 +2,7 @@
 use mathlib.Core.List.{List, flatMap}
 use Prim.Native.Nat.{ℕ}
 use Rattle.pauli.specs.declared.Pauli.{Pauli}
-use Rattle.code_record.specs.declared.Written.{Written}
+use Rattle.refusals.specs.declared.Written.{Written}
 use Rattle.sheet.specs.Text.{After, written}
 use Rattle.row_writer.specs.Lines.{rowLineText, qubitFault}
 

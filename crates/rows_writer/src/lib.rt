@@ -2,9 +2,9 @@
 // canonical generators.
 use code_record::GENERATOR_ROOM;
 use code_record::LOGICAL_ROOM;
-use code_record::Refusal;
-use code_record::Written;
 use pauli::Pauli;
+use refusals::Refusal;
+use refusals::Written;
 ghost use mathlib.Core.Path.{_≡_};
 ghost use Prim.Native.Nat.{_≤_, min};
 ghost use lib.ListN.{length, take};

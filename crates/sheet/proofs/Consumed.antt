@@ -14,7 +14,7 @@ use Rattle.pauli.specs.declared.Pauli.{Pauli}
 use Rattle.pauli.specs.Letters.{letterText, rowText}
 use Rattle.pauli.specs.Lists.{bytes, allOf, anyOf}
 use Rattle.pauli.specs.Product.{modulo4}
-use Rattle.code_record.specs.declared.Refusal.{Refusal}
+use Rattle.refusals.specs.declared.Refusal.{Refusal}
 use Rattle.code_record.specs.Record.{mostQubits, mostDistance, mostGenerators, between, isRow}
 use Rattle.code_record.proofs.Limits.{neither, all-first, between-bounds}
 use Rattle.sheet.specs.Reader.{Reader, stop, done, _andThen_, begins, readLine, readNumber, readRow, readLetters}

@@ -12,12 +12,12 @@ use Rattle.pauli.specs.Letters.{signedRow, ofLetters}
 use Rattle.pauli.specs.Lists.{bytes, allOf}
 use Rattle.pauli.proofs.Table.{each}
 use Rattle.code_record.specs.declared.Code.{Code}
-use Rattle.code_record.specs.declared.Lines.{Lines}
-use Rattle.code_record.specs.declared.Refusal.{Refusal}
-use Rattle.code_record.specs.declared.Written.{Written}
+use Rattle.refusals.specs.declared.Lines.{Lines}
+use Rattle.refusals.specs.declared.Refusal.{Refusal}
+use Rattle.refusals.specs.declared.Written.{Written}
 use Rattle.code_record.specs.Record.{longestInput, codeOf, emptyCode}
 use Rattle.code_record.specs.Record.{between, withinLimits, logicalCount, radius, claimAt, Sized}
-use Rattle.code_record.specs.Refusals.{values}
+use Rattle.refusals.specs.Refusals.{values}
 use Rattle.sheet.specs.Edges.{sheetA}
 use Rattle.sheet.specs.Definitions.{definitions}
 use Rattle.sheet.specs.Reader.{Parsed, SheetRead, got, stop, readForm, linesReading, formReading}

@@ -13,7 +13,7 @@ use lib.Dec.{eqb}
 use lib.ListN.{length, take, drop, getD}
 use lib.Seq.{length-take-le, split-at, drop-append-seam, take-append-seam, drop-append-add, getD-append-seam}
 use Rattle.pauli.specs.Lists.{bytes}
-use Rattle.code_record.specs.declared.Refusal.{Refusal}
+use Rattle.refusals.specs.declared.Refusal.{Refusal}
 use Rattle.code_record.proofs.Limits.{both}
 use Rattle.sheet.specs.Reader.{got, begins, gotOr, isLine, lineOf, readLine}
 use Rattle.sheet.specs.Text.{lineFeed, line}

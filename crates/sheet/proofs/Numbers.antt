@@ -9,10 +9,10 @@ use Prim.Native.Nat.{ℕ}
 use lib.ListN.{length}
 use Rattle.pauli.specs.Lists.{anyOf}
 use Rattle.code_record.specs.declared.Code.{Code}
-use Rattle.code_record.specs.declared.Refusal.{Refusal}
-use Rattle.code_record.specs.declared.Written.{Written}
+use Rattle.refusals.specs.declared.Refusal.{Refusal}
+use Rattle.refusals.specs.declared.Written.{Written}
 use Rattle.code_record.specs.Record.{limitsFault}
-use Rattle.code_record.specs.Refusals.{linesRefusal, writtenRefusal, refuseIf, _then_}
+use Rattle.refusals.specs.Refusals.{linesRefusal, writtenRefusal, refuseIf, _then_}
 use Rattle.sheet.specs.Reader.{Parsed, SheetRead, answered, linesReading, formReading}
 use Rattle.sheet.specs.Statements.{SheetRefusalNumbers}
 use Rattle.sheet.specs.Text.{After, untouched, guarded, roomFault, written}

@@ -5,7 +5,7 @@ use mathlib.Core.List.{List, _++_}
 use mathlib.Core.Option.{Option, none, some}
 use mathlib.Core.Path.{_≡_, refl}
 use Prim.Native.Nat.{ℕ}
-use Rattle.code_record.specs.declared.Refusal.{Refusal}
+use Rattle.refusals.specs.declared.Refusal.{Refusal}
 use Rattle.sheet.specs.Reader.{Parsed, got, stop, Reader, continue, gotOr}
 
 pub data Outcome {A : Type 0} (Got : A → List ℕ → Type 0) (Stop : Refusal → Type 0) : Parsed A → Type 0 where

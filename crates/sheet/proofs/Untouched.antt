@@ -4,8 +4,8 @@ use mathlib.Core.List.{List}
 use mathlib.Core.Option.{Option, none, some, Option·none-ne-some}
 use mathlib.Core.Path.{_≡_, refl, sym, _∙_}
 use Prim.Native.Nat.{ℕ}
-use Rattle.code_record.specs.declared.Refusal.{Refusal}
-use Rattle.code_record.specs.Refusals.{writtenRefusal}
+use Rattle.refusals.specs.declared.Refusal.{Refusal}
+use Rattle.refusals.specs.Refusals.{writtenRefusal}
 use Rattle.sheet.specs.Statements.{RefusalLeaves, WriterRefusalsLeave}
 use Rattle.sheet.specs.Text.{After, untouched, guarded, written}
 use Rattle.sheet.specs.Writer.{writeSheet}

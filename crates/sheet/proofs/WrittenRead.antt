@@ -14,7 +14,7 @@ use Rattle.pauli.specs.Letters.{letterText, rowText}
 use Rattle.pauli.specs.Lists.{allOf, bytes}
 use Rattle.pauli.specs.Product.{modulo4}
 use Rattle.code_record.specs.declared.Code.{Code}
-use Rattle.code_record.specs.declared.Refusal.{Refusal}
+use Rattle.refusals.specs.declared.Refusal.{Refusal}
 use Rattle.code_record.specs.Record.{generatorRoom, logicalRoom, mostQubits, mostDistance, longestInput}
 use Rattle.code_record.specs.Record.{mostGenerators, pairCount, logicalCount, generatorsAt, logicalsAt, claimAt}
 use Rattle.code_record.specs.Record.{firstGeneratorAt, codeOf, generators, logicalXs, logicalZs, isRow, isClaim, Sized}

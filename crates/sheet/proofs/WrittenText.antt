@@ -8,10 +8,10 @@ use Prim.Native.Nat.{ℕ, _≤_, _<_}
 use borrow.Author.Tests.{lt-ltb, le-ltb}
 use lib.ListN.{length}
 use Rattle.code_record.specs.declared.Code.{Code}
-use Rattle.code_record.specs.declared.Refusal.{Refusal}
-use Rattle.code_record.specs.declared.Written.{Written}
+use Rattle.refusals.specs.declared.Refusal.{Refusal}
+use Rattle.refusals.specs.declared.Written.{Written}
 use Rattle.code_record.specs.Record.{withinLimits, limitsFault}
-use Rattle.code_record.specs.Refusals.{refuseIf, _then_}
+use Rattle.refusals.specs.Refusals.{refuseIf, _then_}
 use Rattle.sheet.specs.Text.{After, laid, untouched, guarded, roomFault, written, countOf}
 
 -- ---- one check

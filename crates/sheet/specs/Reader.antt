@@ -13,8 +13,8 @@ use Rattle.pauli.specs.declared.Pauli.{Pauli}
 use Rattle.pauli.specs.Lists.{bytes}
 use Rattle.pauli.specs.Letters.{readSign, readLetter, signedRow, ofLetters}
 use Rattle.code_record.specs.declared.Code.{Code}
-use Rattle.code_record.specs.declared.Refusal.{Refusal}
-use Rattle.code_record.specs.declared.Lines.{Lines}
+use Rattle.refusals.specs.declared.Refusal.{Refusal}
+use Rattle.refusals.specs.declared.Lines.{Lines}
 use Rattle.code_record.specs.declared.LinesReading.{LinesReading}
 use Rattle.code_record.specs.Record.{between, codeOf, emptyCode, pairCount, mostGenerators, firstGeneratorAt}
 use Rattle.code_record.specs.Record.{mostQubits, mostDistance, longestInput}

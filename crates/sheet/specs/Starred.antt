@@ -5,8 +5,8 @@ use mathlib.Core.Option.{Option, none, some}
 use Prim.Native.String.{String}
 use Rattle.pauli.specs.declared.Letter.the-variants.{I, X, Y}
 use Rattle.pauli.specs.Letters.{ofLetters}
-use Rattle.code_record.specs.declared.Family.{Family}
-use Rattle.code_record.specs.declared.Refusal.{Refusal}
+use Rattle.refusals.specs.declared.Family.{Family}
+use Rattle.refusals.specs.declared.Refusal.{Refusal}
 use Rattle.sheet.specs.Edges.{sheetA, sheetB, sheetC, sheetD, sheetE, sheetF, sheetG, sheetH, sheetI, sheetJ}
 use Rattle.sheet.specs.Edges.{sheetK, sheetL}
 

@@ -9,10 +9,10 @@ use lib.ListN.{length}
 use Rattle.pauli.specs.Lists.{anyOf}
 use Rattle.pauli.specs.Product.{modulo4}
 use Rattle.code_record.specs.declared.Code.{Code}
-use Rattle.code_record.specs.declared.Refusal.{Refusal}
+use Rattle.refusals.specs.declared.Refusal.{Refusal}
 use Rattle.code_record.specs.Record.{mostQubits, longestInput, Sized}
 use Rattle.code_record.specs.Record.{withinLimits, claimAt}
-use Rattle.code_record.specs.Refusals.{values, linesRefusal, writtenRefusal}
+use Rattle.refusals.specs.Refusals.{values, linesRefusal, writtenRefusal}
 use Rattle.sheet.specs.Reader.{SheetRead, got, readForm, readLines, linesReading, formReading, behind}
 use Rattle.sheet.specs.Text.{After}
 use Rattle.sheet.specs.Writer.{sheetText, writeSheet}

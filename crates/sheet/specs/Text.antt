@@ -8,9 +8,9 @@ use Prim.Native.String.{String}
 use lib.Dec.{ltb}
 use lib.ListN.{length, drop}
 use Rattle.pauli.specs.Lists.{bytes}
-use Rattle.code_record.specs.declared.Refusal.{Refusal}
-use Rattle.code_record.specs.declared.Written.{Written}
-use Rattle.code_record.specs.Refusals.{refuseIf, _then_}
+use Rattle.refusals.specs.declared.Refusal.{Refusal}
+use Rattle.refusals.specs.declared.Written.{Written}
+use Rattle.refusals.specs.Refusals.{refuseIf, _then_}
 
 -- RULES, "The sheet": a line is a key, a value and a line feed.
 unfoldable pub lineFeed : ℕ

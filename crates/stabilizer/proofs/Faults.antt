@@ -22,10 +22,10 @@ use Rattle.pauli.proofs.Masks.{countOnes-zero, dot-comm}
 use Rattle.pauli.proofs.Modulo.{same-remainder}
 use Rattle.pauli.proofs.Product.{same-parts}
 use Rattle.pauli.proofs.Rows.{rows-product}
-use Rattle.code_record.specs.declared.Family.{Family}
-use Rattle.code_record.specs.declared.Refusal.{Refusal}
+use Rattle.refusals.specs.declared.Family.{Family}
+use Rattle.refusals.specs.declared.Refusal.{Refusal}
 use Rattle.code_record.specs.Record.{isRow}
-use Rattle.code_record.specs.Refusals.{refuseIf, _then_}
+use Rattle.refusals.specs.Refusals.{refuseIf, _then_}
 use Rattle.code_record.proofs.Limits.{both}
 use Rattle.stabilizer.specs.Canonical.{reduced, reducesToIdentity, canonicalGenerators}
 use Rattle.stabilizer.specs.Checks.{firstFault, minusIdentity, clash, dependence, generatorFault}

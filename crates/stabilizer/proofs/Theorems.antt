@@ -14,8 +14,8 @@ use Rattle.pauli.specs.Letters.{rowOf}
 use Rattle.pauli.specs.Lists.{anyOf, allOf}
 use Rattle.pauli.specs.Product.{identity, modulo4, sameMasks, samePauli}
 use Rattle.code_record.specs.declared.Code.{Code}
-use Rattle.code_record.specs.declared.Family.{Family}
-use Rattle.code_record.specs.declared.Refusal.{Refusal}
+use Rattle.refusals.specs.declared.Family.{Family}
+use Rattle.refusals.specs.declared.Refusal.{Refusal}
 use Rattle.code_record.specs.Record.{isRow, onQubits, generators}
 use Rattle.sheet.proofs.Numbers.{IfRefused, law-of-refusal, refuseIf-lawful, then-lawful, limits-lawful, written-lawful}
 use Rattle.stabilizer.specs.Canonical.{reduced, reducesToIdentity, canonicalGenerators, canonicalText}

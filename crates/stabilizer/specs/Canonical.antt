@@ -12,7 +12,7 @@ use Rattle.pauli.specs.Lists.{allOf}
 use Rattle.pauli.specs.Masks.{bits}
 use Rattle.pauli.specs.Product.{identity, product, modulo4, sameMasks}
 use Rattle.code_record.specs.declared.Code.{Code}
-use Rattle.code_record.specs.declared.Written.{Written}
+use Rattle.refusals.specs.declared.Written.{Written}
 use Rattle.code_record.specs.Record.{generators, isRow}
 use Rattle.sheet.specs.Text.{After, written}
 use Rattle.sheet.specs.Writer.{rowLines}

@@ -6,10 +6,10 @@ use Rattle.pauli.specs.declared.Pauli.{Pauli}
 use Rattle.pauli.specs.Lists.{anyOf}
 use Rattle.pauli.specs.Product.{identity, product, anticommutes, samePauli}
 use Rattle.code_record.specs.declared.Code.{Code}
-use Rattle.code_record.specs.declared.Family.{Family}
-use Rattle.code_record.specs.declared.Refusal.{Refusal}
+use Rattle.refusals.specs.declared.Family.{Family}
+use Rattle.refusals.specs.declared.Refusal.{Refusal}
 use Rattle.code_record.specs.Record.{generators, generatorsAt, limitsFault}
-use Rattle.code_record.specs.Refusals.{_then_, refuseIf}
+use Rattle.refusals.specs.Refusals.{_then_, refuseIf}
 use Rattle.stabilizer.specs.Group.{group}
 
 -- A check over all its rows, in order, from the line `at` on. It sees the rows before each row, that row's line, and

@@ -12,9 +12,9 @@ use Rattle.pauli.specs.declared.Sign.{Sign}
 use Rattle.pauli.specs.Letters.{rowOf, isSignedRow}
 use Rattle.pauli.specs.Product.{identity, product, commutes, samePauli}
 use Rattle.code_record.specs.declared.Code.{Code}
-use Rattle.code_record.specs.declared.Refusal.{Refusal}
+use Rattle.refusals.specs.declared.Refusal.{Refusal}
 use Rattle.code_record.specs.Record.{isRow, onQubits}
-use Rattle.code_record.specs.Refusals.{writtenRefusal}
+use Rattle.refusals.specs.Refusals.{writtenRefusal}
 use Rattle.sheet.specs.Statements.{RefusalLeaves, Among}
 use Rattle.stabilizer.specs.Group.{InGroup, group, InGroupUpToPhase, inGroupUpToPhase, memberSign}
 use Rattle.stabilizer.specs.Checks.{minusIdentity, generatorFault, groupFault}

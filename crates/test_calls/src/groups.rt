@@ -6,12 +6,12 @@
 use crate::written::Writer;
 use crate::written::write_thrice;
 use code_record::Code;
-use code_record::Family;
 use code_record::pair_count;
 use elimination::Checked;
 use membership::Membership;
 use pauli::Pauli;
 use reduced_rows::ReducedRows;
+use refusals::Family;
 use test_cases::above;
 use test_cases::changed;
 use test_cases::print;

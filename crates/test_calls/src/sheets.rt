@@ -5,10 +5,10 @@
 use crate::written::Writer;
 use crate::written::write_thrice;
 use code_record::Code;
-use code_record::Family;
-use code_record::Lines;
 use code_record::LinesReading;
 use pauli::Pauli;
+use refusals::Family;
+use refusals::Lines;
 use test_cases::changed;
 use test_cases::one_less;
 use test_cases::print;

@@ -2,7 +2,7 @@
 // generator with the key h, that of n, which may be any number, and that of the X mask of w.
 use crate::written::Writer;
 use crate::written::write_thrice;
-use code_record::Family;
+use refusals::Family;
 use test_cases::changed;
 
 pub fn answer_lines(text: &[u8], change: usize) {

@@ -1,8 +1,8 @@
 // What a writer does with buffers of three lengths.
 use code_record::Code;
 use code_record::LONGEST_SHEET;
-use code_record::Written;
 use pauli::Pauli;
+use refusals::Written;
 use test_cases::dots;
 use test_cases::one_less;
 use test_cases::print;

@@ -1,8 +1,8 @@
 // Answers on standard output.
-use code_record::Refusal;
-use code_record::RowFamily;
-use code_record::Written;
 use libc::STDOUT_FILENO;
+use refusals::Refusal;
+use refusals::RowFamily;
+use refusals::Written;
 ghost use mathlib.Core.Path.{_≡_};
 ghost use Prim.Native.Nat.{_≤_};
 ghost use lib.ListN.{length, replicate};

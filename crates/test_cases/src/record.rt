@@ -3,11 +3,11 @@ use crate::row::above;
 use crate::row::turned;
 use crate::row::with_bits;
 use code_record::Code;
-use code_record::Family;
 use code_record::GENERATOR_ROOM;
 use code_record::LOGICAL_ROOM;
 use code_record::pair_count;
 use pauli::Pauli;
+use refusals::Family;
 
 // The record with one thing changed, by the number of the change: n, r or d up to 10, w up to 13, every phase with
 // 14, then a generator, and from 23 on a logical row. In a record that was read n and d are small, and the remainders

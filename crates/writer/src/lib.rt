@@ -1,8 +1,8 @@
 // The writer of a sheet. Each part of it has a function of its own, which is lent the output from the part's first byte
 // onward and answers how many bytes the part has.
 use code_record::Code;
-use code_record::Refusal;
-use code_record::Written;
+use refusals::Refusal;
+use refusals::Written;
 ghost use mathlib.Core.Bool.{true};
 ghost use mathlib.Core.Path.{_≡_};
 ghost use Prim.Native.Nat.{_≤_};

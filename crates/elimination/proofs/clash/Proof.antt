@@ -8,9 +8,9 @@ use Prim.Native.Nat.{_+_, _-_, _<_, _≤_}
 use native.Mathlib.Omega.{arith}
 use lib.ListN.{length}
 use Rattle.code_record.specs.declared.Code.{Code}
-use Rattle.code_record.specs.declared.Family.{Family}
-use Rattle.code_record.specs.declared.Refusal.{Refusal}
-use Rattle.code_record.specs.Refusals.{refuseIf, _then_}
+use Rattle.refusals.specs.declared.Family.{Family}
+use Rattle.refusals.specs.declared.Refusal.{Refusal}
+use Rattle.refusals.specs.Refusals.{refuseIf, _then_}
 use Rattle.code_record.specs.Record.{generatorRoom, generators, generatorsAt}
 use Rattle.code_record.proofs.Limits.{limits}
 use Rattle.code_record.proofs.ArrayLengths.{sized-of}

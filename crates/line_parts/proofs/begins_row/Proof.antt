@@ -1,6 +1,6 @@
 -- For each family, the kind of the line is its own, or another.
 use borrow.Author.Needs.{needs}
-use Rattle.code_record.specs.declared.Family.{Family}
+use Rattle.refusals.specs.declared.Family.{Family}
 use Rattle.line_parts.specs.declared.LineKind.{LineKind}
 use Rattle.line_parts.proofs.Keys.{other-kind, row-begins, no-row-begins}
 use Rattle.line_parts.proofs.begins_row.Statement.{statement}

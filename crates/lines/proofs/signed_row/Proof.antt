@@ -7,7 +7,7 @@ use native.Mathlib.Omega.{arith}
 use borrow.Author.Needs.{needs}
 use lib.ListN.{length}
 use Rattle.pauli.specs.Letters.{signIn}
-use Rattle.code_record.specs.declared.Lines.{Lines}
+use Rattle.refusals.specs.declared.Lines.{Lines}
 use Rattle.code_record.specs.Record.{mostQubits}
 use Rattle.sheet.specs.Reader.{readLetters}
 use Rattle.line_parts.specs.Values.{rowIn, upTo}

@@ -3,7 +3,7 @@ use mathlib.Core.Path.{ap, sym, _∙_}
 use Prim.Native.Nat.{_<_, _≤_}
 use native.Mathlib.Omega.{arith}
 use lib.ListN.{length}
-use Rattle.code_record.specs.declared.Written.{Written}
+use Rattle.refusals.specs.declared.Written.{Written}
 use Rattle.sheet.specs.Text.{untouched}
 use Rattle.number_writer.specs.Lines.{numberText}
 use Rattle.number_writer.proofs.Numbers.{length-decimal-le, length-numberText, number-too-short, number-has-room}

@@ -5,7 +5,7 @@ use native.Mathlib.Omega.{arith}
 use borrow.Author.Tests.{not-true, not-false}
 use borrow.Author.Needs.{needs}
 use Rattle.pauli.specs.Lists.{bytes}
-use Rattle.code_record.specs.Record.{rowKey}
+use Rattle.refusals.specs.Families.{rowKey}
 use Rattle.sheet.specs.Reader.{begins}
 use Rattle.row_lines.proofs.RowForms.{row-refused, row-got}
 use Rattle.row_lines.proofs.RowsLeft.{row-not-begun}

@@ -5,7 +5,8 @@ use Prim.Native.Nat.{ℕ, _+_, _-_, _≤_}
 use native.Mathlib.Omega.{arith}
 use borrow.Author.Needs.{needs}
 use lib.ListN.{length, drop, replicate, length-drop}
-use Rattle.code_record.specs.Record.{generatorRoom, rowKey}
+use Rattle.code_record.specs.Record.{generatorRoom}
+use Rattle.refusals.specs.Families.{rowKey}
 use Rattle.sheet.specs.Reader.{rowLine}
 use Rattle.sheet.proofs.Parts.{tail-of}
 use Rattle.row_lines.specs.Answers.{bytesOf, rowAt, rowsLeft, Progress}

@@ -7,7 +7,7 @@ use native.Mathlib.Omega.{arith}
 use lib.ListN.{length, take, getD}
 use Rattle.pauli.specs.declared.Pauli.{Pauli}
 use Rattle.pauli.specs.Product.{identity}
-use Rattle.code_record.specs.declared.Written.{Written}
+use Rattle.refusals.specs.declared.Written.{Written}
 use Rattle.sheet.specs.Text.{laid}
 use Rattle.sheet.proofs.Laid.{back, lent, length-lent, Holds, holds-nothing, holds-as, holds-more}
 use Rattle.sheet.proofs.WrittenText.{count-is, content-is}

@@ -58,7 +58,7 @@ loop-holds : tie.Need-loop-holds Inv-loop μ-loop
 loop-holds c =
     let a = c .before .args in
     let all : a .count ≡ a .count - 0 = omega arith in (
-      room-of (a .self) (sized-of (a .self) (c .before .good .0)) (a .family) ∙ sym (c .room .ensures),
+      room-of (a .self) (sized-of (a .self) (c .before .good .0)) (a .family) ∙ sym (c .room-of .ensures),
       omega arith,
       ap (λ m. areRows (a .self .n) m (rowsOf (a .family) (a .self))) all,
     )

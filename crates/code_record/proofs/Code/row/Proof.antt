@@ -6,7 +6,7 @@ use lib.ListN.{length, getD, List·getD-eq-default}
 use native.Mathlib.Omega.{arith}
 use Rattle.pauli.specs.Product.{identity}
 use Rattle.code_record.specs.declared.Code.{Code}
-use Rattle.code_record.specs.declared.Family.{Family}
+use Rattle.refusals.specs.declared.Family.{Family}
 use Rattle.code_record.specs.Record.{rowsOf}
 use Rattle.code_record.proofs.ArrayLengths.{sized-of}
 use borrow.Author.Needs.{needs}

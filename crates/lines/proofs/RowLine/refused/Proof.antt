@@ -1,8 +1,8 @@
 -- The answer is the refusal, and +I stands beside it.
 use mathlib.Core.Path.{ap}
 use borrow.Author.Needs.{needs}
-use Rattle.code_record.specs.declared.Lines.{Lines}
-use Rattle.code_record.specs.declared.Refusal.{Refusal}
+use Rattle.refusals.specs.declared.Lines.{Lines}
+use Rattle.refusals.specs.declared.Refusal.{Refusal}
 use Rattle.lines.specs.Answers.{rowAnswer, linesOf, valueOr}
 use Rattle.lines.proofs.RowLine.refused.Statement.{statement}
 use Rattle.lines.proofs.RowLine.refused.Tie as tie

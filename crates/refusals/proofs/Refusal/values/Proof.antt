@@ -1,11 +1,11 @@
 -- What a refusal says: the call of each arm gives the values of its case, and self is that case.
 use mathlib.Core.Path.{_≡_, ap, sym, _∙_}
-use Rattle.code_record.specs.declared.Refusal.{Refusal}
-use Rattle.code_record.specs.declared.RefusalValues.{RefusalValues}
-use Rattle.code_record.specs.Refusals.{values, answeredValues}
+use Rattle.refusals.specs.declared.Refusal.{Refusal}
+use Rattle.refusals.specs.declared.RefusalValues.{RefusalValues}
+use Rattle.refusals.specs.Refusals.{values, answeredValues}
 use borrow.Author.Needs.{needs}
-use Rattle.code_record.proofs.Refusal.values.Statement.{statement}
-use Rattle.code_record.proofs.Refusal.values.Tie as tie
+use Rattle.refusals.proofs.Refusal.values.Statement.{statement}
+use Rattle.refusals.proofs.Refusal.values.Tie as tie
 
 by-case : {r : RefusalValues} {refusal case : Refusal} → r ≡ answeredValues (values case) → refusal ≡ case
     → r ≡ answeredValues (values refusal)

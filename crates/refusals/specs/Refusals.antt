@@ -2,20 +2,20 @@
 use mathlib.Core.Bool.{Bool, cond}
 use mathlib.Core.Option.{Option, none, some}
 use Prim.Native.Nat.{ℕ}
-use Rattle.code_record.specs.declared.ErrorPair.{ErrorPair}
-use Rattle.code_record.specs.declared.Family.{Family}
-use Rattle.code_record.specs.declared.Lines.{Lines}
-use Rattle.code_record.specs.declared.Refusal.{Refusal}
-use Rattle.code_record.specs.declared.Refusal.the-variants.{TooLong, Form, QubitCount, DistanceRange}
-use Rattle.code_record.specs.declared.Refusal.the-variants.{GeneratorCount}
-use Rattle.code_record.specs.declared.Refusal.the-variants.{GeneratorsAnticommute, MinusIdentity}
-use Rattle.code_record.specs.declared.Refusal.the-variants.{DependentGenerator}
-use Rattle.code_record.specs.declared.Refusal.the-variants.{LogicalAnticommutes, LogicalPairing, ClaimedWeight}
-use Rattle.code_record.specs.declared.Refusal.the-variants.{ClaimedAnticommutes, ClaimedInGroup, DistanceRefuted}
-use Rattle.code_record.specs.declared.Refusal.the-variants.{RecordLimits, Syndrome, ShortBuffer}
-use Rattle.code_record.specs.declared.RefusalValues.{RefusalValues}
-use Rattle.code_record.specs.declared.RowFamily.{RowFamily}
-use Rattle.code_record.specs.declared.Written.{Written}
+use Rattle.refusals.specs.declared.ErrorPair.{ErrorPair}
+use Rattle.refusals.specs.declared.Family.{Family}
+use Rattle.refusals.specs.declared.Lines.{Lines}
+use Rattle.refusals.specs.declared.Refusal.{Refusal}
+use Rattle.refusals.specs.declared.Refusal.the-variants.{TooLong, Form, QubitCount, DistanceRange}
+use Rattle.refusals.specs.declared.Refusal.the-variants.{GeneratorCount}
+use Rattle.refusals.specs.declared.Refusal.the-variants.{GeneratorsAnticommute, MinusIdentity}
+use Rattle.refusals.specs.declared.Refusal.the-variants.{DependentGenerator}
+use Rattle.refusals.specs.declared.Refusal.the-variants.{LogicalAnticommutes, LogicalPairing, ClaimedWeight}
+use Rattle.refusals.specs.declared.Refusal.the-variants.{ClaimedAnticommutes, ClaimedInGroup, DistanceRefuted}
+use Rattle.refusals.specs.declared.Refusal.the-variants.{RecordLimits, Syndrome, ShortBuffer}
+use Rattle.refusals.specs.declared.RefusalValues.{RefusalValues}
+use Rattle.refusals.specs.declared.RowFamily.{RowFamily}
+use Rattle.refusals.specs.declared.Written.{Written}
 
 -- RULES, "Refusals": a refusal has a number and the line named, 0 for none. One about a row has the row's family
 -- besides, and 14 has two errors.
