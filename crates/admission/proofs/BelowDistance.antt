@@ -8,7 +8,7 @@ use native.Mathlib.Decide.{decLt}
 use native.Mathlib.Omega.{arith}
 use Rattle.pauli.specs.declared.Pauli.{Pauli}
 use Rattle.pauli.specs.Letters.{lettersOf}
-use Rattle.pauli.specs.Lists.{allOf}
+use Rattle.letters.specs.Lists.{allOf}
 use Rattle.pauli.specs.Product.{commutes, weight}
 use Rattle.pauli.proofs.Letters.{length-lettersOf, weight-of-letters}
 use Rattle.code_record.specs.declared.Code.{Code}

@@ -7,10 +7,10 @@ use mathlib.Core.Path.{_≡_, ap, sym, _∙_}
 use Prim.Native.Nat.{_≤_}
 use borrow.Author.Tests.{not-true}
 use lib.ListN.{length}
-use Rattle.pauli.specs.declared.Letter.{Letter}
+use Rattle.letters.specs.declared.Letter.{Letter}
 use Rattle.pauli.specs.declared.Pauli.{Pauli}
 use Rattle.pauli.specs.Letters.{ofLetters}
-use Rattle.pauli.specs.Lists.{allOf, firstOf}
+use Rattle.letters.specs.Lists.{allOf, firstOf}
 use Rattle.pauli.specs.Order.{weightOf, stringsUpTo}
 use Rattle.pauli.specs.Product.{commutes}
 use Rattle.pauli.specs.Statements.{StringOrder, Listed}

@@ -3,9 +3,9 @@
 use mathlib.Core.List.{List, [], _∷_, List·Memᴰ}
 use mathlib.Core.Path.{_≡_, refl}
 use Prim.Native.String.{String}
-use Rattle.pauli.specs.declared.Letter.the-variants.{I, X, Y, Z}
+use Rattle.letters.specs.declared.Letter.the-variants.{I, X, Y, Z}
 use Rattle.pauli.specs.Letters.{ofLetters}
-use Rattle.pauli.specs.Lists.{bytes}
+use Rattle.letters.specs.Lists.{bytes}
 use Rattle.pauli.proofs.Table.{each}
 use Rattle.refusals.specs.declared.Family.{Family}
 use Rattle.refusals.specs.declared.Refusal.{Refusal}

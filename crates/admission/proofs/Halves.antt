@@ -6,9 +6,10 @@ use Prim.Native.Nat.{ℕ, zero, suc, _+_, _-_, _*_, _/_, _%_, _<_}
 use native.Mathlib.Omega.{arith}
 use lib.Bits.{bitXor, xor-comm, xor-zero-r}
 use lib.ListN.{length}
-use Rattle.pauli.specs.declared.Letter.{Letter}
-use Rattle.pauli.specs.declared.Letter.the-variants.{I}
-use Rattle.pauli.specs.Letters.{xBit, zBit, maskOf, xMask, zMask, rowOf, signedRow, ofLetters}
+use Rattle.letters.specs.declared.Letter.{Letter}
+use Rattle.letters.specs.declared.Letter.the-variants.{I}
+use Rattle.pauli.specs.Letters.{maskOf, xMask, zMask, rowOf, signedRow, ofLetters}
+use Rattle.letters.specs.Letters.{xBit, zBit}
 use Rattle.pauli.specs.Order.{letterWeight, weightOf}
 use Rattle.pauli.specs.Product.{product}
 use Rattle.pauli.proofs.Letters.{xBit-lt, zBit-lt}

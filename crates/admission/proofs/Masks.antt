@@ -6,11 +6,11 @@ use mathlib.Core.Path.{_≡_, ap, ap₂, sym, _∙_}
 use Prim.Native.Nat.{ℕ}
 use borrow.Author.Tests.{lt-ltb}
 use lib.ListN.{length}
-use Rattle.pauli.specs.declared.Letter.{Letter}
+use Rattle.letters.specs.declared.Letter.{Letter}
 use Rattle.pauli.specs.declared.Pauli.{Pauli}
-use Rattle.pauli.specs.declared.Sign.the-variants.{Plus}
+use Rattle.letters.specs.declared.Sign.the-variants.{Plus}
 use Rattle.pauli.specs.Letters.{rowOf, signedRow, ofLetters, lettersOf}
-use Rattle.pauli.specs.Lists.{allOf}
+use Rattle.letters.specs.Lists.{allOf}
 use Rattle.pauli.specs.Product.{commutes, anticommutes, symplectic}
 use Rattle.pauli.specs.Syndrome.{syndrome}
 use Rattle.pauli.proofs.Letters.{xMask-lt, zMask-lt, masks-return, letters-return}

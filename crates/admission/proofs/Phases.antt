@@ -9,7 +9,7 @@ use native.Mathlib.Omega.{arith}
 use lib.ListN.{length, take, length-map}
 use Rattle.pauli.specs.declared.Pauli.{Pauli}
 use Rattle.pauli.specs.Letters.{ofLetters}
-use Rattle.pauli.specs.Lists.{anyOf, allOf, firstOf}
+use Rattle.letters.specs.Lists.{anyOf, allOf, firstOf}
 use Rattle.pauli.specs.Order.{stringsUpTo}
 use Rattle.pauli.specs.Product.{product, symplectic, commutes, anticommutes, weight, sameMasks, modulo4}
 use Rattle.pauli.proofs.Modulo.{same-remainder}

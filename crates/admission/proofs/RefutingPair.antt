@@ -9,8 +9,8 @@ use native.Mathlib.Decide.{decLt}
 use native.Mathlib.Omega.{arith}
 use lib.Dec.{lit≤}
 use lib.ListN.{length}
-use Rattle.pauli.specs.declared.Letter.{Letter}
-use Rattle.pauli.specs.declared.Letter.the-variants.{I, X, Y, Z}
+use Rattle.letters.specs.declared.Letter.{Letter}
+use Rattle.letters.specs.declared.Letter.the-variants.{I, X, Y, Z}
 use Rattle.pauli.specs.Letters.{ofLetters}
 use Rattle.pauli.specs.Order.{letterWeight, weightOf, Earlier}
 use Rattle.pauli.proofs.Letters.{weight-counts-letters}

@@ -2,7 +2,7 @@
 -- them. Each is computed from the definitions.
 use mathlib.Core.List.{List·Memᴰ}
 use mathlib.Core.Path.{_≡_, refl}
-use Rattle.pauli.specs.Lists.{bytes}
+use Rattle.letters.specs.Lists.{bytes}
 use Rattle.pauli.proofs.Table.{each}
 use Rattle.sheet.specs.Starred.{Entry, starred}
 use Rattle.admission.specs.Admission.{admissionRefusal, readSheet}

@@ -4,7 +4,7 @@ use mathlib.Core.List.{List}
 use mathlib.Core.Option.{none}
 use mathlib.Core.Path.{_≡_, refl, ap, ap₂, _∙_}
 use Prim.Native.Nat.{ℕ}
-use Rattle.pauli.specs.Lists.{bytes}
+use Rattle.letters.specs.Lists.{bytes}
 use Rattle.code_record.specs.declared.Code.{Code}
 use Rattle.code_record.specs.Record.{generators}
 use Rattle.code_record.proofs.Limits.{limits}

@@ -3,11 +3,11 @@ use mathlib.Core.Bool.{true, false}
 use mathlib.Core.List.{List, [], _∷_, map}
 use mathlib.Core.Path.{_≡_, refl}
 use Prim.Native.Nat.{ℕ}
-use Rattle.pauli.specs.declared.Letter.the-variants.{I, X, Z}
-use Rattle.pauli.specs.declared.Sign.the-variants.{Minus}
+use Rattle.letters.specs.declared.Letter.the-variants.{I, X, Z}
+use Rattle.letters.specs.declared.Sign.the-variants.{Minus}
 use Rattle.pauli.specs.declared.Pauli.{Pauli}
 use Rattle.pauli.specs.Letters.{signedRow, ofLetters}
-use Rattle.pauli.specs.Lists.{allOf, anyOf}
+use Rattle.letters.specs.Lists.{allOf, anyOf}
 use Rattle.pauli.specs.Product.{identity}
 use Rattle.code_record.specs.declared.Code.{Code}
 use Rattle.code_record.specs.Definitions.{definitions}

@@ -10,7 +10,7 @@ use lib.ListN.{length, take, drop, set, replicate, length-append, length-map, le
 use lib.ListN.{length-replicate, take-append-drop}
 use lib.Seq.{take-at, drop-at, set-append-seam}
 use Rattle.pauli.specs.declared.Pauli.{Pauli}
-use Rattle.pauli.specs.Lists.{allOf}
+use Rattle.letters.specs.Lists.{allOf}
 use Rattle.pauli.specs.Product.{identity, modulo4, samePauli, sameMasks, hasPhase}
 use Rattle.pauli.proofs.Product.{same-parts}
 use Rattle.code_record.specs.Record.{filled, isRow, areRows}

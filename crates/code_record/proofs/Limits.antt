@@ -10,7 +10,7 @@ use borrow.Author.Tests.{le-leb, lt-leb, leb-true, ltb-true}
 use lib.Dec.{leb, ltb}
 use lib.ListN.{take, drop}
 use Rattle.pauli.specs.declared.Pauli.{Pauli}
-use Rattle.pauli.specs.Lists.{allOf}
+use Rattle.letters.specs.Lists.{allOf}
 use Rattle.pauli.specs.Product.{identity, samePauli}
 use Rattle.code_record.specs.declared.Code.{Code}
 use Rattle.code_record.specs.Record.{mostQubits, mostDistance, mostGenerators, logicalCount}

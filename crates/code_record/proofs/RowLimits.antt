@@ -13,7 +13,7 @@ use lib.ListN.{length, take, drop, getD, drop-of-length-le}
 use lib.Pow.{shl-exact}
 use lib.Seq.{drop-cons}
 use Rattle.pauli.specs.declared.Pauli.{Pauli}
-use Rattle.pauli.specs.Lists.{allOf}
+use Rattle.letters.specs.Lists.{allOf}
 use Rattle.pauli.specs.Product.{identity, samePauli, sameMasks, hasPhase}
 use Rattle.code_record.proofs.Limits.{all-first}
 use Rattle.code_record.specs.declared.Code.{Code}

@@ -7,9 +7,9 @@ use Prim.Native.Nat.{ℕ, _+_, _-_, _*_, _/_, _^_}
 use lib.Dec.{leb, ltb}
 use lib.ListN.{length, take, drop, replicate}
 use Rattle.pauli.specs.declared.Pauli.{Pauli}
-use Rattle.pauli.specs.Lists.{allOf}
+use Rattle.letters.specs.Lists.{allOf}
 use Rattle.pauli.specs.Product.{identity, samePauli}
-use Rattle.pauli.specs.declared.Sign.the-variants.{Plus}
+use Rattle.letters.specs.declared.Sign.the-variants.{Plus}
 use Rattle.pauli.specs.Letters.{hasSign, isSignedRow}
 use Rattle.code_record.specs.declared.Code.{Code}
 use Rattle.refusals.specs.declared.Family.{Family}

@@ -1,6 +1,6 @@
 // The record of a code, its limits, and the answer of the calls that read it.
+use letters::Sign;
 use pauli::Pauli;
-use pauli::Sign;
 use refusals::Family;
 use refusals::Lines;
 ghost use mathlib.Core.Path.{_≡_};

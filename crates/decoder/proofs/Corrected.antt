@@ -9,7 +9,7 @@ use mathlib.Core.Path.{_≡_, refl, ap}
 use Prim.Native.Nat.{ℕ, _≤_}
 use native.Mathlib.Omega.{arith}
 use Rattle.pauli.specs.declared.Pauli.{Pauli}
-use Rattle.pauli.specs.declared.Letter.{Letter}
+use Rattle.letters.specs.declared.Letter.{Letter}
 use Rattle.pauli.specs.Letters.{ofLetters, lettersOf}
 use Rattle.pauli.specs.Order.{weightOf, Earlier}
 use Rattle.pauli.specs.Product.{product, weight}

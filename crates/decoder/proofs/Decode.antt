@@ -7,8 +7,8 @@ use mathlib.Core.Path.{_≡_}
 use Prim.Native.Nat.{ℕ, _≤_, _<_}
 use borrow.Author.Tests.{lt-ltb, le-ltb}
 use lib.ListN.{length}
-use Rattle.pauli.specs.declared.Letter.{Letter}
-use Rattle.pauli.specs.Letters.{letterByte}
+use Rattle.letters.specs.declared.Letter.{Letter}
+use Rattle.letters.specs.Letters.{letterByte}
 use Rattle.code_record.specs.declared.Code.{Code}
 use Rattle.refusals.specs.declared.Refusal.{Refusal}
 use Rattle.code_record.specs.Record.{withinLimits, limitsFault}

@@ -6,7 +6,7 @@ use mathlib.Core.Logic.{_↔_}
 use mathlib.Core.Path.{_≡_, refl, ap₂}
 use Prim.Native.Nat.{_≤_}
 use lib.ListN.{length}
-use Rattle.pauli.specs.declared.Letter.{Letter}
+use Rattle.letters.specs.declared.Letter.{Letter}
 use Rattle.pauli.specs.Letters.{ofLetters}
 use Rattle.pauli.specs.Order.{weightOf, stringsUpTo}
 use Rattle.pauli.specs.Syndrome.{syndrome}

@@ -4,8 +4,8 @@ use mathlib.Core.List.{List}
 use mathlib.Core.Option.{Option, none, some}
 use mathlib.Core.Path.{refl}
 use Prim.Native.Nat.{ℕ}
-use Rattle.pauli.specs.declared.Letter.{Letter}
-use Rattle.pauli.specs.Lists.{anyOf}
+use Rattle.letters.specs.declared.Letter.{Letter}
+use Rattle.letters.specs.Lists.{anyOf}
 use Rattle.refusals.specs.declared.Refusal.{Refusal}
 use Rattle.sheet.specs.Text.{untouched}
 use Rattle.sheet.proofs.Numbers.{IfRefused, law-of-refusal, refuseIf-lawful, then-lawful}

@@ -5,7 +5,7 @@ use mathlib.Core.Option.{Option, none, some}
 use mathlib.Core.Path.{_≡_, refl, ap}
 use Prim.Native.Nat.{ℕ}
 use Rattle.pauli.specs.declared.Pauli.{Pauli}
-use Rattle.pauli.specs.declared.Letter.{Letter}
+use Rattle.letters.specs.declared.Letter.{Letter}
 use Rattle.code_record.specs.declared.Code.{Code}
 use Rattle.refusals.specs.declared.Refusal.{Refusal}
 use Rattle.sheet.specs.Statements.{RefusalLeaves}

@@ -3,9 +3,10 @@ use mathlib.Core.Bool.{Bool}
 use mathlib.Core.List.{List, map}
 use mathlib.Core.Option.{Option, none, some, bind}
 use Prim.Native.Nat.{ℕ}
-use Rattle.pauli.specs.Lists.{firstOf}
-use Rattle.pauli.specs.declared.Letter.{Letter}
-use Rattle.pauli.specs.Letters.{ofLetters, letterByte}
+use Rattle.letters.specs.Lists.{firstOf}
+use Rattle.letters.specs.declared.Letter.{Letter}
+use Rattle.pauli.specs.Letters.{ofLetters}
+use Rattle.letters.specs.Letters.{letterByte}
 use Rattle.pauli.specs.Order.{stringsUpTo}
 use Rattle.pauli.specs.Syndrome.{syndrome}
 use Rattle.code_record.specs.declared.Code.{Code}

@@ -7,8 +7,9 @@ use mathlib.Core.Path.{_≡_}
 use Prim.Native.Nat.{ℕ, _+_, _%_, _^_, _≤_, _<_}
 use lib.ListN.{length}
 use Rattle.pauli.specs.declared.Pauli.{Pauli}
-use Rattle.pauli.specs.declared.Letter.{Letter}
-use Rattle.pauli.specs.Letters.{ofLetters, letterByte}
+use Rattle.letters.specs.declared.Letter.{Letter}
+use Rattle.pauli.specs.Letters.{ofLetters}
+use Rattle.letters.specs.Letters.{letterByte}
 use Rattle.pauli.specs.Order.{weightOf, Earlier}
 use Rattle.pauli.specs.Product.{product, weight}
 use Rattle.pauli.specs.Syndrome.{syndrome}

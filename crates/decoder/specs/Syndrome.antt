@@ -7,7 +7,7 @@ use Prim.Native.Char.{code}
 use lib.Dec.{eqb}
 use lib.ListN.{length}
 use Rattle.pauli.specs.declared.Pauli.{Pauli}
-use Rattle.pauli.specs.Lists.{readByte}
+use Rattle.letters.specs.Lists.{readByte}
 use Rattle.pauli.specs.Syndrome.{syndrome}
 use Rattle.code_record.specs.declared.Code.{Code}
 use Rattle.refusals.specs.declared.Refusal.{Refusal}

@@ -6,7 +6,7 @@ use mathlib.Core.Path.{_≡_, ap, _∙_}
 use Prim.Native.Nat.{ℕ, _+_, _<_, _≤_}
 use lib.ListN.{length, take, drop, getD}
 use Rattle.pauli.specs.declared.Pauli.{Pauli}
-use Rattle.pauli.specs.Lists.{anyOf}
+use Rattle.letters.specs.Lists.{anyOf}
 use Rattle.pauli.specs.Product.{identity}
 use Rattle.stabilizer.proofs.Tests.{any-cons}
 use Rattle.reduced_rows.proofs.FirstRows.{taken-at, taken-end}

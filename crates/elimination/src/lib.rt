@@ -12,7 +12,7 @@ ghost use mathlib.Core.Option.{none, some};
 ghost use mathlib.Core.Path.{_≡_};
 ghost use Prim.Native.Nat.{_<_};
 ghost use lib.ListN.{take, getD};
-ghost use Rattle.pauli.specs.Lists.{anyOf};
+ghost use Rattle.letters.specs.Lists.{anyOf};
 ghost use Rattle.pauli.specs.Product.{identity, anticommutes};
 ghost use Rattle.code_record.specs.Record.{generatorRoom, generators, generatorsAt, withinLimits};
 ghost use Rattle.stabilizer.specs.Checks.{firstFault, clash};

@@ -10,7 +10,7 @@ use lib.Dec.{eqb}
 use lib.ListN.{take}
 use denote.Enum.Declared.{tagOf}
 use types.Run.{OneOf, miss}
-use Rattle.pauli.specs.Lists.{bytes, readByte, firstOf}
+use Rattle.letters.specs.Lists.{bytes, readByte, firstOf}
 use Rattle.refusals.specs.declared.Family.{Family}
 use Rattle.refusals.specs.Families.{rowKey}
 use Rattle.code_record.proofs.Limits.{both}

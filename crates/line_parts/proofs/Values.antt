@@ -9,9 +9,10 @@ use native.Mathlib.Omega.{arith}
 use borrow.Author.Tests.{lt-ltb, le-ltb}
 use lib.ListN.{length, drop, getD, length-drop}
 use lib.Seq.{drop-cons}
-use Rattle.pauli.specs.declared.Letter.{Letter}
-use Rattle.pauli.specs.declared.Sign.the-variants.{Plus}
-use Rattle.pauli.specs.Letters.{xBit, zBit, xMask, zMask, maskOf, readLetter, rowOf, signedRow, ofLetters}
+use Rattle.letters.specs.declared.Letter.{Letter}
+use Rattle.letters.specs.declared.Sign.the-variants.{Plus}
+use Rattle.pauli.specs.Letters.{xMask, zMask, maskOf, rowOf, signedRow, ofLetters}
+use Rattle.letters.specs.Letters.{xBit, zBit, readLetter}
 use Rattle.pauli.proofs.Letters.{xMask-lt, zMask-lt}
 use Rattle.code_record.proofs.Limits.{bounds-between, outside-between}
 use Rattle.sheet.specs.Reader.{readDigit, readEach, readNumber, numberOf, readLetters}

@@ -6,7 +6,7 @@ use Prim.Native.Nat.{ℕ}
 use Prim.Native.Char.{code}
 use lib.Dec.{eqb}
 use lib.ListN.{getD}
-use Rattle.pauli.specs.Lists.{readByte}
+use Rattle.letters.specs.Lists.{readByte}
 use Rattle.line_parts.specs.declared.LineKind.{LineKind}
 use Rattle.line_parts.specs.declared.LineKind.the-variants.{Qubits, Distance, Generator, LogicalX, LogicalZ}
 use Rattle.line_parts.specs.declared.LineKind.the-variants.{Claim, Other}

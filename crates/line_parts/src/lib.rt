@@ -1,13 +1,13 @@
 // What the parts of a sheet's line are read as: the key at its start, which tells its kind, and the words behind it,
 // which are numbers and letters.
 use code_record::MOST_QUBITS;
-use pauli::Letter;
-use pauli::LetterRead;
+use letters::Letter;
+use letters::LetterRead;
+use letters::Sign;
 use pauli::Pauli;
-use pauli::Sign;
 use refusals::Family;
 ghost use mathlib.Core.Path.{_≡_};
-ghost use Rattle.pauli.specs.Lists.{bytes};
+ghost use Rattle.letters.specs.Lists.{bytes};
 ghost use Rattle.code_record.specs.Record.{mostQubits};
 ghost use Rattle.refusals.specs.Families.{rowKey};
 ghost use Rattle.sheet.specs.Reader.{begins, readDigit, readNumber, readLetters};

@@ -10,11 +10,12 @@ use borrow.Author.Tests.{ltb-true, ltb-false}
 use lib.Dec.{eqb, ltb}
 use lib.ListN.{length, take, drop, getD}
 use lib.Seq.{drop-cons}
-use Rattle.pauli.specs.declared.Letter.{Letter}
+use Rattle.letters.specs.declared.Letter.{Letter}
 use Rattle.pauli.specs.declared.Pauli.{Pauli}
-use Rattle.pauli.specs.declared.Sign.{Sign}
-use Rattle.pauli.specs.Letters.{readLetter, readSign, rowOf, signedRow, ofLetters}
-use Rattle.pauli.specs.Lists.{bytes}
+use Rattle.letters.specs.declared.Sign.{Sign}
+use Rattle.pauli.specs.Letters.{rowOf, signedRow, ofLetters}
+use Rattle.letters.specs.Letters.{readLetter, readSign}
+use Rattle.letters.specs.Lists.{bytes}
 use Rattle.refusals.specs.declared.Refusal.{Refusal}
 use Rattle.code_record.specs.Record.{mostQubits}
 use Rattle.sheet.specs.Reader.{Reader, got, stop, gotOr, readEach, readLetters, readRow, lineOf, claimLine}

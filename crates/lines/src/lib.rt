@@ -2,12 +2,12 @@
 // took, or the refusal that ends the reading, with the line's value beside it.
 use code_record::MOST_DISTANCE;
 use code_record::MOST_QUBITS;
+use letters::Sign;
+use letters::SignRead;
 use line_parts::Letters;
 use line_parts::LineKind;
 use line_parts::Number;
 use pauli::Pauli;
-use pauli::Sign;
-use pauli::SignRead;
 use refusals::Lines;
 use refusals::Refusal;
 ghost use mathlib.Core.Path.{_≡_};

@@ -1,7 +1,7 @@
 -- The numbers with which the call refuses: those of the checks, since its answer has their fault.
 use mathlib.Core.Option.{Option, none, some}
 use mathlib.Core.Path.{_≡_, refl, sym, _∙_}
-use Rattle.pauli.specs.declared.Sign.{Sign}
+use Rattle.letters.specs.declared.Sign.{Sign}
 use Rattle.refusals.specs.declared.Refusal.{Refusal}
 use Rattle.stabilizer.proofs.Theorems.{canonical-refusal-numbers}
 use Rattle.membership.specs.Answers.{membershipRefusal, memberAnswer, membership}

@@ -1,8 +1,8 @@
 // Membership in the group of a record's generators, with its sign.
 use code_record::Code;
 use elimination::Checked;
+use letters::Sign;
 use pauli::Pauli;
-use pauli::Sign;
 use reduced_rows::Kind;
 use refusals::Refusal;
 ghost use mathlib.Core.Path.{_≡_};

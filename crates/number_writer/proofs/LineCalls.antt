@@ -1,7 +1,7 @@
 -- What is stated of a number's line that is written by itself: its text is the sheet's by definition, and the call is
 -- `written` with its checks, so the laws of every such call hold of it.
 use mathlib.Core.Path.{refl}
-use Rattle.pauli.specs.Lists.{anyOf}
+use Rattle.letters.specs.Lists.{anyOf}
 use Rattle.sheet.specs.Text.{line}
 use Rattle.sheet.proofs.Numbers.{IfRefused, law-of-refusal, written-lawful}
 use Rattle.sheet.proofs.Untouched.{written-leaves}

@@ -4,7 +4,7 @@ use mathlib.Core.Option.{some}
 use mathlib.Core.Path.{_≡_}
 use Prim.Native.Nat.{ℕ}
 use Prim.Native.String.{String}
-use Rattle.pauli.specs.Lists.{bytes}
+use Rattle.letters.specs.Lists.{bytes}
 use Rattle.refusals.specs.declared.Refusal.{Refusal}
 use Rattle.refusals.specs.Refusals.{writtenRefusal}
 use Rattle.sheet.specs.Statements.{RefusalLeaves, Among}

@@ -17,8 +17,8 @@ use native.Mathlib.Decide.{decLt, map-dec, ℕ-discrete}
 use native.Mathlib.Nat.{lt-irrefl, ℕ-set, le-suc-iff, zero-add}
 use native.Mathlib.Numerals.{one-add}
 use native.Mathlib.Omega.{arith}
-use Rattle.pauli.specs.declared.Letter.{Letter}
-use Rattle.pauli.specs.declared.Letter.the-variants.{I, X, Y, Z}
+use Rattle.letters.specs.declared.Letter.{Letter}
+use Rattle.letters.specs.declared.Letter.the-variants.{I, X, Y, Z}
 use Rattle.pauli.specs.Order.{rank, letterWeight, weightOf, SmallerLetter, Earlier, strings, stringsUpTo}
 use Rattle.pauli.specs.Statements.{EarlierIsStrictTotalOrder, StringsAreListed, StringsUpToAreListed}
 

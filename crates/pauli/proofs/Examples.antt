@@ -7,24 +7,16 @@ use mathlib.Core.Option.{none, some}
 use lib.Dec.{lit<, leb}
 use lib.ListN.{length, replicate}
 use Prim.Native.Nat.{_^_, _-_}
-use Rattle.pauli.specs.declared.Letter.{Letter}
-use Rattle.pauli.specs.declared.Letter.the-variants.{I, X, Y, Z}
-use Rattle.pauli.specs.declared.Sign.the-variants.{Plus, Minus}
-use Rattle.pauli.specs.Letters.{signedRow, ofLetters, lettersOf, isSignedRow, readLetter, readSign, rowText}
-use Rattle.pauli.specs.Lists.{firstOf, anyOf, allOf, bytes}
+use Rattle.letters.specs.declared.Letter.{Letter}
+use Rattle.letters.specs.declared.Letter.the-variants.{I, X, Y, Z}
+use Rattle.letters.specs.declared.Sign.the-variants.{Plus, Minus}
+use Rattle.pauli.specs.Letters.{signedRow, ofLetters, lettersOf, isSignedRow, rowText}
+use Rattle.letters.specs.Lists.{bytes}
 use Rattle.pauli.specs.Masks.{bits}
 use Rattle.pauli.specs.Definitions.{definitions}
 use Rattle.pauli.specs.Order.{Earlier, SmallerLetter, rank, strings, stringsUpTo, weightOf}
 use Rattle.pauli.specs.Product.{identity, product, commutes, anticommutes, weight, sameMasks, samePauli}
 use Rattle.pauli.specs.Syndrome.{syndrome}
-
--- ---- searches through a list
-
-searches :
-    (firstOf (λ m. leb 2 m) (1 ∷ 3 ∷ 2 ∷ []) ≡ some 3) × (anyOf (λ m. leb 3 m) (1 ∷ 3 ∷ 2 ∷ []) ≡ true)
-    × (allOf (λ m. leb m 2) (1 ∷ 2 ∷ 3 ∷ []) ≡ false)
-unfolding definitions
-searches = (refl, refl, refl)
 
 -- ---- products and commutation
 
@@ -84,12 +76,6 @@ bits-lowest-first = refl
 texts : (rowText 4 (signedRow Minus ixyz) ≡ bytes "-IXYZ") × (rowText 4 (signedRow Plus ixyz) ≡ bytes "+IXYZ")
 unfolding ixyz definitions
 texts = (refl, refl)
-
-bytes-read :
-    (map readLetter (bytes "IXYZx.") ≡ some I ∷ some X ∷ some Y ∷ some Z ∷ none ∷ none ∷ [])
-    × (map readSign (bytes "+- ") ≡ some Plus ∷ some Minus ∷ none ∷ [])
-unfolding definitions
-bytes-read = (refl, refl)
 
 -- a Y counts as one
 weights : (weight (ofLetters ixyz) ≡ 3) × (weightOf ixyz ≡ 3)

@@ -7,8 +7,8 @@ use mathlib.Core.List.{mem-cast, mem-cons-self, mem-cons-of-mem, mem-of-ne-of-me
 use mathlib.Core.Logic.{inl, inr, by-cases, Iff·trans, Iff·and, Iff·rfl}
 use mathlib.Core.Option.{Option, none, some, Option·some-injective, Option·none-ne-some, Option·some-ne-none}
 use mathlib.Core.Path.{_≡_, refl, ap, sym, _∙_}
-use Rattle.pauli.specs.declared.Letter.{Letter}
-use Rattle.pauli.specs.Lists.{firstOf, passing}
+use Rattle.letters.specs.declared.Letter.{Letter}
+use Rattle.letters.specs.Lists.{firstOf, passing}
 use Rattle.pauli.specs.Statements.{StringOrder, Listed, FirstBy, ListsAreSearched}
 use Rattle.pauli.proofs.EarlierOrder.{strings-discrete}
 

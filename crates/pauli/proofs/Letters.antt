@@ -11,9 +11,10 @@ use lib.Dec.{lit<}
 use lib.ListN.{length, getD}
 use lib.Pow.{shr-shr}
 use Rattle.pauli.specs.declared.Pauli.{Pauli}
-use Rattle.pauli.specs.declared.Letter.{Letter}
-use Rattle.pauli.specs.declared.Letter.the-variants.{I, X, Y, Z}
-use Rattle.pauli.specs.Letters.{letterAt, xBit, zBit, lettersAt, lettersOf, letterOn, maskOf, xMask, zMask}
+use Rattle.letters.specs.declared.Letter.{Letter}
+use Rattle.letters.specs.declared.Letter.the-variants.{I, X, Y, Z}
+use Rattle.pauli.specs.Letters.{lettersAt, lettersOf, letterOn, maskOf, xMask, zMask}
+use Rattle.letters.specs.Letters.{letterAt, xBit, zBit}
 use Rattle.pauli.specs.Letters.{countY, rowOf, signedRow, ofLetters}
 use Rattle.pauli.specs.Masks.{countOnes, dot}
 use Rattle.pauli.specs.Order.{letterWeight, weightOf}

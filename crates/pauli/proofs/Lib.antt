@@ -1,5 +1,4 @@
 pub mod Modulo
-pub mod Lists
 pub mod Masks
 pub mod Product
 pub mod Syndrome

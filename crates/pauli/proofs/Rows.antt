@@ -9,10 +9,11 @@ use native.Mathlib.Omega.{arith}
 use borrow.Author.Tests.{eqb-true, eqb-false, eq-eqb, ne-eqb}
 use lib.Bits.{bitXor}
 use Rattle.pauli.specs.declared.Pauli.{Pauli}
-use Rattle.pauli.specs.declared.Letter.{Letter}
-use Rattle.pauli.specs.declared.Sign.{Sign}
-use Rattle.pauli.specs.declared.Sign.the-variants.{Plus, Minus}
-use Rattle.pauli.specs.Letters.{lettersOf, xMask, zMask, countY, signPhase, rowPhase, rowOf, signedRow, hasSign}
+use Rattle.letters.specs.declared.Letter.{Letter}
+use Rattle.letters.specs.declared.Sign.{Sign}
+use Rattle.letters.specs.declared.Sign.the-variants.{Plus, Minus}
+use Rattle.pauli.specs.Letters.{lettersOf, xMask, zMask, countY, rowPhase, rowOf, signedRow, hasSign}
+use Rattle.letters.specs.Letters.{signPhase}
 use Rattle.pauli.specs.Letters.{isSignedRow, signOf}
 use Rattle.pauli.specs.Masks.{dot}
 use Rattle.pauli.specs.Product.{product, commutes, symplectic, modulo4, hasPhase}

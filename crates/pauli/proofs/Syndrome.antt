@@ -6,7 +6,7 @@ use mathlib.Core.Logic.{_↔_}
 use mathlib.Core.Path.{_≡_, refl, ap, ap₂, sym, _∙_}
 use lib.Dec.{eqb}
 use Rattle.pauli.specs.declared.Pauli.{Pauli}
-use Rattle.pauli.specs.Lists.{allOf}
+use Rattle.letters.specs.Lists.{allOf}
 use Rattle.pauli.specs.Product.{product, commutes, anticommutes}
 use Rattle.pauli.specs.Syndrome.{syndrome, addBits}
 use Rattle.pauli.proofs.Product.{anticommutes-product, symplectic-comm}

@@ -1,39 +1,15 @@
--- Letters and signs: how a Pauli is written.
+-- The letters and the sign of a Pauli: how it is written.
 use mathlib.Core.Bool.{Bool, cond, _||_}
 use mathlib.Core.List.{List, [], _∷_, map}
-use mathlib.Core.Option.{Option, none, some}
 use Prim.Native.Nat.{ℕ, zero, suc, _+_, _*_, _/_, _%_, _^_}
-use Prim.Native.Char.{code}
 use Rattle.pauli.specs.declared.Pauli.{Pauli}
-use Rattle.pauli.specs.declared.Letter.{Letter}
-use Rattle.pauli.specs.declared.Letter.the-variants.{I, X, Y, Z}
-use Rattle.pauli.specs.declared.Sign.{Sign}
-use Rattle.pauli.specs.declared.Sign.the-variants.{Plus, Minus}
-use Rattle.pauli.specs.declared.LetterRead.{LetterRead}
-use Rattle.pauli.specs.declared.SignRead.{SignRead}
-use Rattle.pauli.specs.Lists.{readByte}
+use Rattle.letters.specs.declared.Letter.{Letter}
+use Rattle.letters.specs.declared.Letter.the-variants.{I, X, Y, Z}
+use Rattle.letters.specs.declared.Sign.{Sign}
+use Rattle.letters.specs.declared.Sign.the-variants.{Plus, Minus}
+use Rattle.letters.specs.Letters.{letterAt, xBit, zBit, signPhase, letterByte, signByte}
 use Rattle.pauli.specs.Masks.{dot}
 use Rattle.pauli.specs.Product.{hasPhase}
-
--- RULES, "Letters and rows": the letter of a qubit, by its bits in the X mask and in the Z mask.
-unfoldable pub letterAt : ℕ → ℕ → Letter
-letterAt zero zero = I
-letterAt (suc a) zero = X
-letterAt zero (suc b) = Z
-letterAt (suc a) (suc b) = Y
-
--- The other way round: a letter's bit in the X mask, and in the Z mask.
-abbrev pub xBit : Letter → ℕ
-xBit I = 0
-xBit X = 1
-xBit Y = 1
-xBit Z = 0
-
-abbrev pub zBit : Letter → ℕ
-zBit I = 0
-zBit X = 0
-zBit Y = 1
-zBit Z = 1
 
 -- The n letters of two masks, and of a Pauli; qubit 1 first.
 unfoldable pub lettersAt : ℕ → ℕ → ℕ → List Letter
@@ -66,10 +42,6 @@ countY (X ∷ ls) = countY ls
 countY (Y ∷ ls) = suc (countY ls)
 countY (Z ∷ ls) = countY ls
 
-abbrev pub signPhase : Sign → ℕ
-signPhase Plus = 0
-signPhase Minus = 2
-
 -- RULES, "Letters and rows": the phase of a signed row is a·b modulo 4, and for - two more.
 unfoldable pub rowPhase : Sign → ℕ → ℕ → ℕ
 rowPhase s a b = (dot a b + signPhase s) % 4
@@ -93,32 +65,6 @@ isSignedRow P = hasSign Plus P || hasSign Minus P
 -- The sign of a signed row.
 unfoldable pub signOf : Pauli → Sign
 signOf P = cond (hasSign Plus P) Plus Minus
-
--- Letters and signs as bytes.
-abbrev pub letterByte : Letter → ℕ
-letterByte I = code "I"
-letterByte X = code "X"
-letterByte Y = code "Y"
-letterByte Z = code "Z"
-
-unfoldable pub readLetter : ℕ → Option Letter
-readLetter = readByte letterByte (I ∷ X ∷ Y ∷ Z ∷ [])
-
-abbrev pub signByte : Sign → ℕ
-signByte Plus = code "+"
-signByte Minus = code "-"
-
-unfoldable pub readSign : ℕ → Option Sign
-readSign = readByte signByte (Plus ∷ Minus ∷ [])
-
--- What a byte was read as, where it was read as one.
-abbrev pub letterIn : LetterRead → Option Letter
-letterIn (LetterRead.Got l) = some l
-letterIn LetterRead.NotALetter = none
-
-abbrev pub signIn : SignRead → Option Sign
-signIn (SignRead.Got s) = some s
-signIn SignRead.NotASign = none
 
 -- The n letters of a Pauli as bytes, as w and a correction are written, and with the sign first, as a row is.
 unfoldable pub letterText : ℕ → Pauli → List ℕ

@@ -1,4 +1,3 @@
-pub mod Lists
 pub mod Masks
 pub mod Product
 pub mod Syndrome

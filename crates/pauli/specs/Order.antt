@@ -5,8 +5,8 @@ use mathlib.Core.Logic.{_⊎_}
 use mathlib.Core.List.{List, [], _∷_, _++_, map, flatMap}
 use Prim.Native.Nat.{ℕ, zero, suc, _+_, _<_}
 use lib.ListN.{replicate}
-use Rattle.pauli.specs.declared.Letter.{Letter}
-use Rattle.pauli.specs.declared.Letter.the-variants.{I, X, Y, Z}
+use Rattle.letters.specs.declared.Letter.{Letter}
+use Rattle.letters.specs.declared.Letter.the-variants.{I, X, Y, Z}
 
 -- The letters I, X, Y, Z in their order.
 unfoldable pub rank : Letter → ℕ

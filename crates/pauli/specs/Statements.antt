@@ -7,10 +7,10 @@ use mathlib.Core.Path.{_≡_}
 use Prim.Native.Nat.{ℕ, _^_, _≤_, _<_}
 use lib.ListN.{length}
 use Rattle.pauli.specs.declared.Pauli.{Pauli}
-use Rattle.pauli.specs.declared.Letter.{Letter}
-use Rattle.pauli.specs.declared.Sign.{Sign}
+use Rattle.letters.specs.declared.Letter.{Letter}
+use Rattle.letters.specs.declared.Sign.{Sign}
 use Rattle.pauli.specs.Letters.{signedRow, ofLetters, lettersOf, xMask, zMask}
-use Rattle.pauli.specs.Lists.{firstOf, passing}
+use Rattle.letters.specs.Lists.{firstOf, passing}
 use Rattle.pauli.specs.Order.{weightOf, Earlier, strings, stringsUpTo}
 use Rattle.pauli.specs.Product.{weight}
 

@@ -7,8 +7,8 @@ use Prim.Native.Nat.{ℕ, _≤_}
 use native.Mathlib.Omega.{arith}
 use lib.Dec.{lit≤}
 use lib.ListN.{length, length-append}
-use Rattle.pauli.specs.declared.Letter.{Letter}
-use Rattle.pauli.specs.Lists.{bytes}
+use Rattle.letters.specs.declared.Letter.{Letter}
+use Rattle.letters.specs.Lists.{bytes}
 use Rattle.code_record.specs.declared.Code.{Code}
 use Rattle.refusals.specs.declared.Refusal.{Refusal}
 use Rattle.code_record.specs.Record.{generatorsAt, pairCount, logicalCount, logicalsAt, claimAt, Sized}

@@ -9,9 +9,9 @@ use native.Mathlib.Nat.{mul-le-mul}
 use native.Mathlib.Omega.{arith}
 use lib.Dec.{lit≤, ltb}
 use lib.ListN.{length, length-append, length-map}
-use Rattle.pauli.specs.declared.Letter.{Letter}
-use Rattle.pauli.specs.Letters.{letterByte}
-use Rattle.pauli.specs.Lists.{bytes}
+use Rattle.letters.specs.declared.Letter.{Letter}
+use Rattle.letters.specs.Letters.{letterByte}
+use Rattle.letters.specs.Lists.{bytes}
 use Rattle.code_record.specs.declared.Code.{Code}
 use Rattle.refusals.specs.declared.Refusal.{Refusal}
 use Rattle.code_record.specs.Record.{generators, pairCount, logicalCount, radius, mostQubits, longestInput, Sized}

@@ -7,8 +7,8 @@ use mathlib.Core.Option.{Option, none}
 use mathlib.Core.Path.{_≡_, refl, ap, ap₂, sym, _∙_}
 use Prim.Native.Nat.{ℕ, _+_, _≤_, _<_}
 use lib.ListN.{length}
-use Rattle.pauli.specs.Lists.{anyOf}
-use Rattle.pauli.specs.declared.Letter.{Letter}
+use Rattle.letters.specs.Lists.{anyOf}
+use Rattle.letters.specs.declared.Letter.{Letter}
 use Rattle.code_record.specs.declared.Code.{Code}
 use Rattle.refusals.specs.declared.Refusal.{Refusal}
 use Rattle.code_record.specs.Record.{longestInput}

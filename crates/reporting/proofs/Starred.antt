@@ -3,7 +3,7 @@
 use mathlib.Core.List.{List·Memᴰ}
 use mathlib.Core.Path.{_≡_, refl}
 use Prim.Native.String.{_++_}
-use Rattle.pauli.specs.Lists.{bytes}
+use Rattle.letters.specs.Lists.{bytes}
 use Rattle.pauli.proofs.Table.{each}
 use Rattle.sheet.specs.Starred.{Entry, starred}
 use Rattle.admission.specs.Admission.{admissionRefusal, readSheet}

@@ -4,9 +4,10 @@ use mathlib.Core.List.{List, [], _∷_, _++_, map, flatMap}
 use mathlib.Core.Option.{Option, none, some}
 use Prim.Native.Nat.{ℕ, zero, suc, _+_}
 use lib.ListN.{length}
-use Rattle.pauli.specs.Lists.{bytes}
-use Rattle.pauli.specs.declared.Letter.{Letter}
-use Rattle.pauli.specs.Letters.{letterByte, letterText}
+use Rattle.letters.specs.Lists.{bytes}
+use Rattle.letters.specs.declared.Letter.{Letter}
+use Rattle.pauli.specs.Letters.{letterText}
+use Rattle.letters.specs.Letters.{letterByte}
 use Rattle.code_record.specs.declared.Code.{Code}
 use Rattle.refusals.specs.declared.ErrorPair.{ErrorPair}
 use Rattle.refusals.specs.declared.Refusal.{Refusal}

@@ -7,8 +7,9 @@ use mathlib.Core.Path.{_≡_}
 use Prim.Native.Nat.{ℕ, _+_, _≤_, _<_}
 use lib.ListN.{length}
 use Rattle.pauli.specs.declared.Pauli.{Pauli}
-use Rattle.pauli.specs.Letters.{letterByte, letterText}
-use Rattle.pauli.specs.Lists.{bytes}
+use Rattle.pauli.specs.Letters.{letterText}
+use Rattle.letters.specs.Letters.{letterByte}
+use Rattle.letters.specs.Lists.{bytes}
 use Rattle.pauli.specs.Product.{weight}
 use Rattle.pauli.specs.Syndrome.{syndrome}
 use Rattle.code_record.specs.declared.Code.{Code}

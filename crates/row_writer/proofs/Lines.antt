@@ -9,10 +9,11 @@ use Prim.Native.String.{String}
 use native.Mathlib.Omega.{arith}
 use lib.ListN.{length, take, set, getD, length-append, List·getD-map}
 use lib.Seq.{take-all, sets}
-use Rattle.pauli.specs.declared.Letter.the-variants.{I}
+use Rattle.letters.specs.declared.Letter.the-variants.{I}
 use Rattle.pauli.specs.declared.Pauli.{Pauli}
-use Rattle.pauli.specs.Letters.{letterByte, letterText, letterOn, lettersOf, rowText, signByte, signOf}
-use Rattle.pauli.specs.Lists.{bytes}
+use Rattle.pauli.specs.Letters.{letterText, letterOn, lettersOf, rowText, signOf}
+use Rattle.letters.specs.Letters.{letterByte, signByte}
+use Rattle.letters.specs.Lists.{bytes}
 use Rattle.pauli.proofs.Letters.{letters-at}
 use Rattle.refusals.specs.declared.Refusal.{Refusal}
 use Rattle.refusals.specs.declared.Written.{Written}

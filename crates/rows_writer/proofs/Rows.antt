@@ -11,7 +11,7 @@ use lib.ListN.{length, take, getD, length-append}
 use lib.Seq.{take-all, take-suc, length-take-le}
 use Rattle.pauli.specs.declared.Pauli.{Pauli}
 use Rattle.pauli.specs.Letters.{rowText}
-use Rattle.pauli.specs.Lists.{bytes}
+use Rattle.letters.specs.Lists.{bytes}
 use Rattle.pauli.specs.Product.{identity}
 use Rattle.refusals.specs.declared.Written.{Written}
 use Rattle.code_record.specs.Record.{mostQubits}

@@ -1,7 +1,7 @@
 -- What is stated of the lines of several rows: their text is the sheet's by definition, and the call is `written` with
 -- its checks, so the laws of every such call hold of it.
 use mathlib.Core.Path.{refl}
-use Rattle.pauli.specs.Lists.{anyOf}
+use Rattle.letters.specs.Lists.{anyOf}
 use Rattle.sheet.proofs.Numbers.{law-of-refusal, refuseIf-lawful, written-lawful}
 use Rattle.sheet.proofs.Untouched.{written-leaves}
 use Rattle.row_writer.specs.Lines.{qubitFault}

@@ -12,7 +12,7 @@ use lib.Dec.{eqb, ltb}
 use lib.ListN.{length}
 use Rattle.pauli.specs.declared.Pauli.{Pauli}
 use Rattle.pauli.specs.Letters.{letterText, rowText}
-use Rattle.pauli.specs.Lists.{bytes, allOf, anyOf}
+use Rattle.letters.specs.Lists.{bytes, allOf, anyOf}
 use Rattle.pauli.specs.Product.{modulo4}
 use Rattle.refusals.specs.declared.Refusal.{Refusal}
 use Rattle.code_record.specs.Record.{mostQubits, mostDistance, mostGenerators, between, isRow}

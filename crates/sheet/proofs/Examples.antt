@@ -6,10 +6,10 @@ use Prim.Native.Nat.{ℕ, zero, suc, _+_}
 use Prim.Native.String.{String, _++_ as _⧺_}
 use lib.Dec.{eqb}
 use lib.ListN.{length, take, replicate}
-use Rattle.pauli.specs.declared.Letter.the-variants.{I, X, Y, Z}
-use Rattle.pauli.specs.declared.Sign.the-variants.{Plus, Minus}
+use Rattle.letters.specs.declared.Letter.the-variants.{I, X, Y, Z}
+use Rattle.letters.specs.declared.Sign.the-variants.{Plus, Minus}
 use Rattle.pauli.specs.Letters.{signedRow, ofLetters}
-use Rattle.pauli.specs.Lists.{bytes, allOf}
+use Rattle.letters.specs.Lists.{bytes, allOf}
 use Rattle.pauli.proofs.Table.{each}
 use Rattle.code_record.specs.declared.Code.{Code}
 use Rattle.refusals.specs.declared.Lines.{Lines}

@@ -16,7 +16,7 @@ use lib.ListN.{length, length-append, length-map}
 use lib.Seq.{length-take-le}
 use Rattle.pauli.specs.declared.Pauli.{Pauli}
 use Rattle.pauli.specs.Letters.{letterText, rowText}
-use Rattle.pauli.specs.Lists.{bytes}
+use Rattle.letters.specs.Lists.{bytes}
 use Rattle.pauli.proofs.Letters.{length-lettersOf}
 use Rattle.code_record.specs.declared.Code.{Code}
 use Rattle.code_record.specs.Record.{mostQubits, pairCount, logicalCount, withinLimits}

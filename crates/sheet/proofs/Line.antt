@@ -12,7 +12,7 @@ use borrow.Author.Tests.{eqb-true, eq-eqb}
 use lib.Dec.{eqb}
 use lib.ListN.{length, take, drop, getD}
 use lib.Seq.{length-take-le, split-at, drop-append-seam, take-append-seam, drop-append-add, getD-append-seam}
-use Rattle.pauli.specs.Lists.{bytes}
+use Rattle.letters.specs.Lists.{bytes}
 use Rattle.refusals.specs.declared.Refusal.{Refusal}
 use Rattle.code_record.proofs.Limits.{both}
 use Rattle.sheet.specs.Reader.{got, begins, gotOr, isLine, lineOf, readLine}

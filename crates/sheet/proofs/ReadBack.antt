@@ -9,7 +9,7 @@ use lib.Dec.{ltb}
 use lib.ListN.{length, drop, length-append}
 use lib.Seq.{drop-append-seam}
 use Rattle.pauli.specs.declared.Pauli.{Pauli}
-use Rattle.pauli.specs.Lists.{anyOf}
+use Rattle.letters.specs.Lists.{anyOf}
 use Rattle.code_record.specs.Record.{generatorRoom, logicalRoom, mostQubits, mostDistance, longestInput}
 use Rattle.code_record.specs.Record.{pairCount, mostGenerators, logicalCount, generators, logicalXs, logicalZs}
 use Rattle.code_record.specs.Record.{firstGeneratorAt, generatorsAt, logicalsAt, claimAt, codeOf, withinLimits}

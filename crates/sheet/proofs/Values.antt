@@ -15,13 +15,14 @@ use lib.Dec.{eqb}
 use lib.ListN.{length, length-map}
 use lib.Seq.{append-snoc}
 use Rattle.pauli.specs.declared.Pauli.{Pauli}
-use Rattle.pauli.specs.declared.Letter.{Letter}
-use Rattle.pauli.specs.declared.Letter.the-variants.{I, X, Y, Z}
-use Rattle.pauli.specs.declared.Sign.{Sign}
-use Rattle.pauli.specs.declared.Sign.the-variants.{Plus, Minus}
-use Rattle.pauli.specs.Letters.{readLetter, readSign, letterByte, signByte, letterText, rowText, lettersOf}
+use Rattle.letters.specs.declared.Letter.{Letter}
+use Rattle.letters.specs.declared.Letter.the-variants.{I, X, Y, Z}
+use Rattle.letters.specs.declared.Sign.{Sign}
+use Rattle.letters.specs.declared.Sign.the-variants.{Plus, Minus}
+use Rattle.pauli.specs.Letters.{letterText, rowText, lettersOf}
+use Rattle.letters.specs.Letters.{readLetter, readSign, letterByte, signByte}
 use Rattle.pauli.specs.Letters.{xMask, zMask, rowPhase, rowOf, signedRow, ofLetters, isSignedRow, signOf}
-use Rattle.pauli.specs.Lists.{firstOf, readByte}
+use Rattle.letters.specs.Lists.{firstOf, readByte}
 use Rattle.pauli.specs.Product.{modulo4}
 use Rattle.pauli.proofs.Letters.{letters-return, xMask-lt, zMask-lt}
 use Rattle.pauli.proofs.Rows.{row-has-sign, row-returns, sign-returns, signed-row-is-signed}

@@ -11,7 +11,7 @@ use borrow.Author.Tests.{le-ltb, ne-eqb}
 use lib.ListN.{length, length-map}
 use Rattle.pauli.specs.declared.Pauli.{Pauli}
 use Rattle.pauli.specs.Letters.{letterText, rowText}
-use Rattle.pauli.specs.Lists.{allOf, bytes}
+use Rattle.letters.specs.Lists.{allOf, bytes}
 use Rattle.pauli.specs.Product.{modulo4}
 use Rattle.code_record.specs.declared.Code.{Code}
 use Rattle.refusals.specs.declared.Refusal.{Refusal}

@@ -10,8 +10,9 @@ use Prim.Native.String.{String}
 use lib.Dec.{eqb, ltb}
 use lib.ListN.{length, take, drop, getD}
 use Rattle.pauli.specs.declared.Pauli.{Pauli}
-use Rattle.pauli.specs.Lists.{bytes}
-use Rattle.pauli.specs.Letters.{readSign, readLetter, signedRow, ofLetters}
+use Rattle.letters.specs.Lists.{bytes}
+use Rattle.pauli.specs.Letters.{signedRow, ofLetters}
+use Rattle.letters.specs.Letters.{readSign, readLetter}
 use Rattle.code_record.specs.declared.Code.{Code}
 use Rattle.refusals.specs.declared.Refusal.{Refusal}
 use Rattle.refusals.specs.declared.Lines.{Lines}

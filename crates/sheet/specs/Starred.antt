@@ -3,7 +3,7 @@
 use mathlib.Core.List.{List, [], _∷_}
 use mathlib.Core.Option.{Option, none, some}
 use Prim.Native.String.{String}
-use Rattle.pauli.specs.declared.Letter.the-variants.{I, X, Y}
+use Rattle.letters.specs.declared.Letter.the-variants.{I, X, Y}
 use Rattle.pauli.specs.Letters.{ofLetters}
 use Rattle.refusals.specs.declared.Family.{Family}
 use Rattle.refusals.specs.declared.Refusal.{Refusal}

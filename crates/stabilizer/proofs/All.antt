@@ -7,7 +7,7 @@ use mathlib.Core.Path.{_≡_, refl, ap₂, sym, _∙_}
 use Prim.Native.Nat.{ℕ, zero, suc, _<_}
 use native.Mathlib.Omega.{arith}
 use lib.ListN.{length, getD}
-use Rattle.pauli.specs.Lists.{allOf, anyOf}
+use Rattle.letters.specs.Lists.{allOf, anyOf}
 use Rattle.code_record.proofs.Limits.{all-first, all-cons}
 use Rattle.stabilizer.proofs.Tests.{neither, any-cons}
 

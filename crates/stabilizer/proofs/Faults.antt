@@ -11,10 +11,10 @@ use native.Mathlib.Omega.{arith}
 use lib.Bits.{xor-zero-r}
 use borrow.Author.Tests.{eq-eqb, not-false}
 use Rattle.pauli.specs.declared.Pauli.{Pauli}
-use Rattle.pauli.specs.declared.Sign.{Sign}
-use Rattle.pauli.specs.declared.Sign.the-variants.{Plus, Minus}
+use Rattle.letters.specs.declared.Sign.{Sign}
+use Rattle.letters.specs.declared.Sign.the-variants.{Plus, Minus}
 use Rattle.pauli.specs.Letters.{rowPhase, rowOf, hasSign, isSignedRow}
-use Rattle.pauli.specs.Lists.{anyOf}
+use Rattle.letters.specs.Lists.{anyOf}
 use Rattle.pauli.specs.Masks.{dot}
 use Rattle.pauli.specs.Product.{identity, product, commutes, anticommutes, symplectic, modulo4, hasPhase, sameMasks}
 use Rattle.pauli.specs.Product.{samePauli}

@@ -12,10 +12,11 @@ use lib.Bits.{xor-comm, xor-self}
 use lib.Dec.{eqb}
 use borrow.Author.Tests.{eqb-true, eq-eqb}
 use Rattle.pauli.specs.declared.Pauli.{Pauli}
-use Rattle.pauli.specs.declared.Sign.{Sign}
-use Rattle.pauli.specs.declared.Sign.the-variants.{Plus, Minus}
-use Rattle.pauli.specs.Letters.{signPhase, rowPhase, hasSign, isSignedRow}
-use Rattle.pauli.specs.Lists.{anyOf}
+use Rattle.letters.specs.declared.Sign.{Sign}
+use Rattle.letters.specs.declared.Sign.the-variants.{Plus, Minus}
+use Rattle.pauli.specs.Letters.{rowPhase, hasSign, isSignedRow}
+use Rattle.letters.specs.Letters.{signPhase}
+use Rattle.letters.specs.Lists.{anyOf}
 use Rattle.pauli.specs.Product.{identity, product, commutes, sameMasks, modulo4, hasPhase, samePauli}
 use Rattle.pauli.proofs.Masks.{dot-comm}
 use Rattle.pauli.proofs.Product.{pauli, same-parts, product-phase-lt, commutes-decides}

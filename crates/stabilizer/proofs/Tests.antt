@@ -3,7 +3,7 @@ use mathlib.Core.Bool.{Bool, true, false, _||_, or-assoc, true≢false}
 use mathlib.Core.List.{List, [], _∷_, _++_, map}
 use mathlib.Core.Logic.{_↔_, _⊎_, inl, inr}
 use mathlib.Core.Path.{_≡_, refl, sym}
-use Rattle.pauli.specs.Lists.{anyOf}
+use Rattle.letters.specs.Lists.{anyOf}
 
 -- A test passes or fails.
 pub by-test : (F : Bool → Type 0) (t : Bool) → (t ≡ true → F true) → (t ≡ false → F false) → F t

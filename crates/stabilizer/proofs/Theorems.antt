@@ -8,10 +8,10 @@ use mathlib.Core.Option.{Option, none, some}
 use mathlib.Core.Path.{_≡_, refl}
 use Prim.Native.Nat.{ℕ}
 use Rattle.pauli.specs.declared.Pauli.{Pauli}
-use Rattle.pauli.specs.declared.Sign.{Sign}
-use Rattle.pauli.specs.declared.Sign.the-variants.{Plus, Minus}
+use Rattle.letters.specs.declared.Sign.{Sign}
+use Rattle.letters.specs.declared.Sign.the-variants.{Plus, Minus}
 use Rattle.pauli.specs.Letters.{rowOf}
-use Rattle.pauli.specs.Lists.{anyOf, allOf}
+use Rattle.letters.specs.Lists.{anyOf, allOf}
 use Rattle.pauli.specs.Product.{identity, modulo4, sameMasks, samePauli}
 use Rattle.code_record.specs.declared.Code.{Code}
 use Rattle.refusals.specs.declared.Family.{Family}

@@ -7,8 +7,8 @@ use mathlib.Core.Path.{_≡_}
 use Prim.Native.Nat.{ℕ, _≤_, _<_}
 use lib.ListN.{length, getD}
 use Rattle.pauli.specs.declared.Pauli.{Pauli}
-use Rattle.pauli.specs.Lists.{anyOf, allOf}
-use Rattle.pauli.specs.declared.Sign.{Sign}
+use Rattle.letters.specs.Lists.{anyOf, allOf}
+use Rattle.letters.specs.declared.Sign.{Sign}
 use Rattle.pauli.specs.Letters.{rowOf, isSignedRow}
 use Rattle.pauli.specs.Product.{identity, product, commutes, samePauli}
 use Rattle.code_record.specs.declared.Code.{Code}

@@ -2,11 +2,11 @@
 // and a line feed. The answer is the product of the rows from left to right, whether the last row commutes with the
 // product of those before it, and the product's weight: "-YY commutes 2". A line with anything else is answered "not
 // rows".
-use pauli::Letter;
-use pauli::LetterRead;
+use letters::Letter;
+use letters::LetterRead;
+use letters::Sign;
+use letters::SignRead;
 use pauli::Pauli;
-use pauli::Sign;
-use pauli::SignRead;
 use test_cases::print;
 use test_cases::print_number;
 ghost use Prim.Native.Nat.{_≤_};

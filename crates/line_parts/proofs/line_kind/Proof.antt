@@ -7,8 +7,8 @@ use borrow.Author.Needs.{needs}
 use borrow.Author.Tests.{ne-eqb}
 use lib.Dec.{eqb}
 use lib.ListN.{getD, List·getD-eq-default}
-use Rattle.pauli.specs.Lists.{firstOf, readByte}
-use Rattle.pauli.proofs.Lists.{readByte-skip}
+use Rattle.letters.specs.Lists.{firstOf, readByte}
+use Rattle.letters.proofs.Lists.{readByte-skip}
 use Rattle.line_parts.specs.declared.LineKind.the-variants.{Qubits, Distance, Generator, LogicalX, LogicalZ}
 use Rattle.line_parts.specs.declared.LineKind.the-variants.{Claim, Other}
 use Rattle.line_parts.specs.LineKinds.{kindByte, orOther, kindOf, lineKind}

@@ -7,8 +7,9 @@ use native.Mathlib.Omega.{arith}
 use borrow.Author.Needs.{needs}
 use lib.ListN.{length, drop, getD}
 use lib.Seq.{drop-length}
-use Rattle.pauli.specs.declared.Sign.the-variants.{Plus}
-use Rattle.pauli.specs.Letters.{xBit, zBit, letterIn, readLetter, rowOf, signedRow, ofLetters, xMask, zMask, maskOf}
+use Rattle.letters.specs.declared.Sign.the-variants.{Plus}
+use Rattle.pauli.specs.Letters.{rowOf, signedRow, ofLetters, xMask, zMask, maskOf}
+use Rattle.letters.specs.Letters.{xBit, zBit, letterIn, readLetter}
 use Rattle.code_record.specs.Record.{mostQubits}
 use Rattle.sheet.specs.Reader.{readEach, readLetters}
 use Rattle.line_parts.proofs.Values.{few-bytes, many-bytes, letters-step, letters-small, no-letter}

@@ -6,7 +6,7 @@ use Prim.Native.Nat.{ℕ, _+_, _<_}
 use native.Mathlib.Omega.{arith}
 use borrow.Author.Needs.{needs}
 use lib.ListN.{length}
-use Rattle.pauli.specs.Letters.{signIn}
+use Rattle.letters.specs.Letters.{signIn}
 use Rattle.refusals.specs.declared.Lines.{Lines}
 use Rattle.code_record.specs.Record.{mostQubits}
 use Rattle.sheet.specs.Reader.{readLetters}

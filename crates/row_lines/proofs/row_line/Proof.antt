@@ -4,7 +4,7 @@ use mathlib.Core.Path.{_≡_, sym, _∙_}
 use native.Mathlib.Omega.{arith}
 use borrow.Author.Tests.{not-true, not-false}
 use borrow.Author.Needs.{needs}
-use Rattle.pauli.specs.Lists.{bytes}
+use Rattle.letters.specs.Lists.{bytes}
 use Rattle.refusals.specs.Families.{rowKey}
 use Rattle.sheet.specs.Reader.{begins}
 use Rattle.row_lines.proofs.RowForms.{row-refused, row-got}

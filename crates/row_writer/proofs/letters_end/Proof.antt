@@ -3,7 +3,8 @@ use mathlib.Core.Path.{_≡_, ap, _∙_}
 use Prim.Native.Nat.{_-_, _≤_}
 use native.Mathlib.Omega.{arith}
 use lib.ListN.{length, take, set, length-set}
-use Rattle.pauli.specs.Letters.{letterByte, letterOn, letterText}
+use Rattle.pauli.specs.Letters.{letterOn, letterText}
+use Rattle.letters.specs.Letters.{letterByte}
 use Rattle.sheet.specs.Text.{laid}
 use Rattle.sheet.proofs.Laid.{laid-nothing}
 use Rattle.row_writer.proofs.Lines.{letter-laid, length-letters-laid, letters-ended}

@@ -5,7 +5,7 @@ use Prim.Native.Nat.{ℕ, _+_, _≤_}
 use native.Mathlib.Omega.{arith}
 use lib.ListN.{length, length-set}
 use lib.Seq.{sets, length-sets}
-use Rattle.pauli.specs.Letters.{signByte}
+use Rattle.letters.specs.Letters.{signByte}
 use Rattle.sheet.specs.Text.{laid}
 use Rattle.sheet.proofs.Laid.{length-lent, length-back}
 use Rattle.row_writer.specs.Lines.{lettersEnd, rowLineText}

@@ -2,7 +2,7 @@
 use mathlib.Core.Bool.{Bool, _||_}
 use mathlib.Core.Path.{ap, sym, _∙_}
 use borrow.Author.Needs.{needs}
-use Rattle.pauli.specs.declared.Sign.the-variants.{Minus}
+use Rattle.letters.specs.declared.Sign.the-variants.{Minus}
 use Rattle.pauli.specs.Letters.{hasSign, isSignedRow}
 use Rattle.pauli.proofs.Pauli.is_signed_row.Statement.{statement}
 use Rattle.pauli.proofs.Pauli.is_signed_row.Tie as tie

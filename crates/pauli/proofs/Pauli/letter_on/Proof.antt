@@ -1,7 +1,8 @@
 -- A shift brings the two bits down. Beyond 32 places a mask of 32 bits has none.
 use borrow.Author.Needs.{needs}
 use native.Mathlib.Omega.{arith}
-use Rattle.pauli.specs.Letters.{letterAt, letterOn}
+use Rattle.pauli.specs.Letters.{letterOn}
+use Rattle.letters.specs.Letters.{letterAt}
 use Rattle.pauli.proofs.Masks.{no-high-bits}
 use Rattle.pauli.proofs.Pauli.letter_on.Statement.{statement}
 use Rattle.pauli.proofs.Pauli.letter_on.Tie as tie

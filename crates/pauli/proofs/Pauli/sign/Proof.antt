@@ -2,7 +2,7 @@
 use mathlib.Core.Bool.{Bool, cond}
 use mathlib.Core.Path.{ap, sym, _∙_}
 use borrow.Author.Needs.{needs}
-use Rattle.pauli.specs.declared.Sign.the-variants.{Plus, Minus}
+use Rattle.letters.specs.declared.Sign.the-variants.{Plus, Minus}
 use Rattle.pauli.specs.Letters.{signOf}
 use Rattle.pauli.proofs.Pauli.sign.Statement.{statement}
 use Rattle.pauli.proofs.Pauli.sign.Tie as tie

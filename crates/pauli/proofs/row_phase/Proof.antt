@@ -3,12 +3,13 @@ use mathlib.Core.Path.{ap₂, sym}
 use Prim.Native.Nat.{ℕ, _+_, _%_, _≤_}
 use borrow.Author.Needs.{needs}
 use native.Mathlib.Omega.{arith}
-use Rattle.pauli.specs.declared.Sign.{Sign}
-use Rattle.pauli.specs.declared.Sign.the-variants.{Plus, Minus}
-use Rattle.pauli.specs.Letters.{signPhase, rowPhase}
+use Rattle.letters.specs.declared.Sign.{Sign}
+use Rattle.letters.specs.declared.Sign.the-variants.{Plus, Minus}
+use Rattle.pauli.specs.Letters.{rowPhase}
+use Rattle.letters.specs.Letters.{signPhase}
 use Rattle.pauli.proofs.Masks.{dot-ones, ones-and-le}
-use Rattle.pauli.proofs.Sign.row_phase.Statement.{statement}
-use Rattle.pauli.proofs.Sign.row_phase.Tie as tie
+use Rattle.pauli.proofs.row_phase.Statement.{statement}
+use Rattle.pauli.proofs.row_phase.Tie as tie
 
 signPhase-le : (sign : Sign) → signPhase sign ≤ 2
 signPhase-le Plus = omega arith
@@ -20,7 +21,7 @@ add-result c =
       arith,
       ones-and-le 32 (c .before .args .a) (c .before .args .b) (search needs),
       c .phase .ensures,
-      signPhase-le (c .before .args .self),
+      signPhase-le (c .before .args .sign),
     )
 
 returns : tie.Need-returns

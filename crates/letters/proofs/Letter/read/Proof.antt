@@ -1,12 +1,12 @@
 -- The byte is one of the four, or none of them.
 use mathlib.Core.Path.{ap, sym, _∙_}
 use mathlib.Core.List.{[], _∷_}
-use Rattle.pauli.specs.declared.Letter.the-variants.{I, X, Y, Z}
-use Rattle.pauli.specs.Letters.{letterByte, readLetter}
-use Rattle.pauli.specs.Lists.{firstOf, readByte}
-use Rattle.pauli.proofs.Lists.{readByte-skip}
-use Rattle.pauli.proofs.Letter.read.Statement.{statement}
-use Rattle.pauli.proofs.Letter.read.Tie as tie
+use Rattle.letters.specs.declared.Letter.the-variants.{I, X, Y, Z}
+use Rattle.letters.specs.Letters.{letterByte, readLetter}
+use Rattle.letters.specs.Lists.{firstOf, readByte}
+use Rattle.letters.proofs.Lists.{readByte-skip}
+use Rattle.letters.proofs.Letter.read.Statement.{statement}
+use Rattle.letters.proofs.Letter.read.Tie as tie
 
 returns : tie.Need-returns
 unfolding readLetter readByte firstOf

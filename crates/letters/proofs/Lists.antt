@@ -3,7 +3,7 @@ use mathlib.Core.Path.{_≡_}
 use mathlib.Core.List.{List, _∷_}
 use Prim.Native.Nat.{ℕ}
 use borrow.Author.Tests.{ne-eqb}
-use Rattle.pauli.specs.Lists.{firstOf, readByte}
+use Rattle.letters.specs.Lists.{firstOf, readByte}
 
 pub readByte-skip : {A : Type 0} (byte : A → ℕ) (a : A) (values : List A) (c : ℕ) → (c ≡ byte a → ⊥)
     → readByte byte (a ∷ values) c ≡ readByte byte values c

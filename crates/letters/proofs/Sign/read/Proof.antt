@@ -1,12 +1,12 @@
 -- The byte is one of the two, or neither.
 use mathlib.Core.Path.{ap, sym, _∙_}
 use mathlib.Core.List.{[], _∷_}
-use Rattle.pauli.specs.declared.Sign.the-variants.{Plus, Minus}
-use Rattle.pauli.specs.Letters.{signByte, readSign}
-use Rattle.pauli.specs.Lists.{firstOf, readByte}
-use Rattle.pauli.proofs.Lists.{readByte-skip}
-use Rattle.pauli.proofs.Sign.read.Statement.{statement}
-use Rattle.pauli.proofs.Sign.read.Tie as tie
+use Rattle.letters.specs.declared.Sign.the-variants.{Plus, Minus}
+use Rattle.letters.specs.Letters.{signByte, readSign}
+use Rattle.letters.specs.Lists.{firstOf, readByte}
+use Rattle.letters.proofs.Lists.{readByte-skip}
+use Rattle.letters.proofs.Sign.read.Statement.{statement}
+use Rattle.letters.proofs.Sign.read.Tie as tie
 
 returns : tie.Need-returns
 unfolding readSign readByte firstOf

@@ -3,9 +3,9 @@ use mathlib.Core.Path.{_≡_, ap₂, sym}
 use Prim.Native.Nat.{ℕ, _%_}
 use borrow.Author.Needs.{needs}
 use native.Mathlib.Omega.{arith}
-use Rattle.pauli.specs.Letters.{letterAt}
-use Rattle.pauli.proofs.Letter.of_bits.Statement.{statement}
-use Rattle.pauli.proofs.Letter.of_bits.Tie as tie
+use Rattle.letters.specs.Letters.{letterAt}
+use Rattle.letters.proofs.Letter.of_bits.Statement.{statement}
+use Rattle.letters.proofs.Letter.of_bits.Tie as tie
 
 chosen : (x z u v : ℕ) → x % 2 ≡ u → z % 2 ≡ v → letterAt u v ≡ letterAt (x % 2) (z % 2)
 chosen x z u v ex ez = ap₂ letterAt (sym ex) (sym ez)
