@@ -67,6 +67,11 @@ unfoldable pub writtenRefusal : Written → Option Refusal
 writtenRefusal (Written.Count m) = none
 writtenRefusal (Written.Refused refusal) = some refusal
 
+-- How many bytes a call wrote: none where it refused.
+abbrev pub countOf : Written → ℕ
+countOf (Written.Count m) = m
+countOf (Written.Refused refusal) = 0
+
 -- The refusal where the test holds.
 unfoldable pub refuseIf : Bool → Refusal → Option Refusal
 refuseIf test refusal = cond test (some refusal) none

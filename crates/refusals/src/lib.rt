@@ -2,7 +2,7 @@
 use pauli::Pauli;
 ghost use mathlib.Core.Path.{_≡_};
 ghost use Rattle.refusals.specs.Families.{keyByte};
-ghost use Rattle.refusals.specs.Refusals.{plain, ofRow, values, answeredValues};
+ghost use Rattle.refusals.specs.Refusals.{plain, ofRow, values, answeredValues, countOf};
 
 // The three kinds of rows, each with its array in the record and its key in the sheet. A refusal about a row names its
 // kind.
@@ -145,4 +145,16 @@ pub enum Lines {
 pub enum Written {
     Count(usize),
     Refused(Refusal),
+}
+
+impl Written {
+    // How many bytes were written: none where the call refused. So a caller finds where the next line begins.
+    pub fn count(self) -> usize
+        ensures { λ r. ⌜ r ≡ countOf self ⌝ }
+    {
+        match self {
+            Written::Count(length) => length,
+            Written::Refused(_) => 0,
+        }
+    }
 }

@@ -7,18 +7,8 @@ ghost use mathlib.Core.Path.{_≡_};
 ghost use Prim.Native.Nat.{_≤_, _<_};
 ghost use lib.ListN.{length};
 ghost use Rattle.code_record.specs.Record.{mostQubits, between};
-ghost use Rattle.sheet.specs.Text.{laid, countOf};
+ghost use Rattle.sheet.specs.Text.{laid};
 ghost use Rattle.row_writer.specs.Lines.{lettersEnd, rowLineText, writeRow, lettersLineText, writeLetters};
-
-// How many bytes a call that writes text wrote: none where it refused. So a caller finds where the next line begins.
-pub fn count_of(answer: Written) -> usize
-    ensures { λ r. ⌜ r ≡ countOf answer ⌝ }
-{
-    match answer {
-        Written::Count(length) => length,
-        Written::Refused(_) => 0,
-    }
-}
 
 // The letters of a row, one for each of n qubits, and the line feed.
 fn letters_end(out: &mut [u8], n: usize, row: Pauli)

@@ -37,7 +37,7 @@ fn row_lines(
     let mut end: usize = 0;
     let mut place: usize = 0;
     while place < count {
-        end += row_writer::count_of(row_writer::write_row(key, n, rows[place], &mut out[end..]));
+        end += row_writer::write_row(key, n, rows[place], &mut out[end..]).count();
         place += 1;
     }
     end

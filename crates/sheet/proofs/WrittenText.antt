@@ -11,8 +11,8 @@ use Rattle.code_record.specs.declared.Code.{Code}
 use Rattle.refusals.specs.declared.Refusal.{Refusal}
 use Rattle.refusals.specs.declared.Written.{Written}
 use Rattle.code_record.specs.Record.{withinLimits, limitsFault}
-use Rattle.refusals.specs.Refusals.{refuseIf, _then_}
-use Rattle.sheet.specs.Text.{After, laid, untouched, guarded, roomFault, written, countOf}
+use Rattle.refusals.specs.Refusals.{refuseIf, _then_, countOf}
+use Rattle.sheet.specs.Text.{After, laid, untouched, guarded, roomFault, written}
 
 -- ---- one check
 

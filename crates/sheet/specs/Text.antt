@@ -57,8 +57,3 @@ unfoldable pub written : Option Refusal → List ℕ → List ℕ → After Writ
 written fault text buffer =
     guarded Written.Refused (fault then roomFault (length text) buffer) buffer
     (record { answer = Written.Count (length text); buffer = laid text buffer })
-
--- How many bytes such a call wrote: none where it refused.
-abbrev pub countOf : Written → ℕ
-countOf (Written.Count m) = m
-countOf (Written.Refused refusal) = 0

@@ -18,8 +18,8 @@ fn number_lines(out: &mut [u8], n: usize, d: usize) -> usize
     ensures { λ r. ⌜ r ≡ length (numbersText n d) ⌝ }
     ensures { λ _. ⌜ now (out .exit) ≡ laid (numbersText n d) (now (out .entry)) ⌝ }
 {
-    let mut end = row_writer::count_of(number_writer::write_number(b"n=", n, out));
-    end += row_writer::count_of(number_writer::write_number(b"d=", d, &mut out[end..]));
+    let mut end = number_writer::write_number(b"n=", n, out).count();
+    end += number_writer::write_number(b"d=", d, &mut out[end..]).count();
     end
 }
 
@@ -36,9 +36,9 @@ fn row_lines(out: &mut [u8], code: Code) -> usize
     let g = code.g;
     let x = code.x;
     let z = code.z;
-    let mut end = row_writer::count_of(rows_writer::write_rows(b'g', n, r, g, out));
-    end += row_writer::count_of(rows_writer::write_logicals(b'x', n, k, x, &mut out[end..]));
-    end += row_writer::count_of(rows_writer::write_logicals(b'z', n, k, z, &mut out[end..]));
+    let mut end = rows_writer::write_rows(b'g', n, r, g, out).count();
+    end += rows_writer::write_logicals(b'x', n, k, x, &mut out[end..]).count();
+    end += rows_writer::write_logicals(b'z', n, k, z, &mut out[end..]).count();
     end
 }
 
@@ -51,7 +51,7 @@ fn sheet_lines(out: &mut [u8], code: Code) -> usize
 {
     let mut end = number_lines(out, code.n, code.d);
     end += row_lines(&mut out[end..], code);
-    end += row_writer::count_of(row_writer::write_letters(b'w', code.n, code.w, &mut out[end..]));
+    end += row_writer::write_letters(b'w', code.n, code.w, &mut out[end..]).count();
     end
 }
 

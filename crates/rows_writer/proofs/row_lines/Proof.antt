@@ -59,7 +59,7 @@ module _ (c : tie.In-loop Inv-loop μ-loop) where
 
 -- ---- behind the line
 
-module _ (c : tie.After-count-of Inv-loop μ-loop) where
+module _ (c : tie.After-count Inv-loop μ-loop) where
   abbrev turn : tie.In-loop Inv-loop μ-loop
   turn = c .before .before .before .before .before .before
 
@@ -83,14 +83,14 @@ module _ (c : tie.After-count-of Inv-loop μ-loop) where
       ≡ record { answer = Written.Count (length text); buffer = laid text part }
   whole = row-has-room (key turn) (n turn) (row turn) part (start turn .pre .0) (start turn .pre .1 .0) fits
 
-  count : c .count-of .result ≡ length text
-  count = count-is text part whole (c .before .before .before .write-row .ensures .0) (c .count-of .ensures)
+  count : c .count .result ≡ length text
+  count = count-is text part whole (c .before .before .before .write-row .ensures .0) (c .count .ensures)
 
   held : Holds (rowsText (key turn) (n turn) (take (turn .before .loop .place + 1) (rows turn)))
       (start turn .args .out .now)
       (back (turn .before .loop .end) (turn .before .loop .out)
       (c .before .before .before .write-row .last .1 .1 .1 .0))
-      (turn .before .loop .end + c .count-of .result)
+      (turn .before .loop .end + c .count .result)
   held =
       let call = c .before .before .before .write-row in
       holds-as

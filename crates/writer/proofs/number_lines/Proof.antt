@@ -32,47 +32,47 @@ module _ (c : tie.Start) where
 
 -- ---- behind the line of n
 
-module _ (c : tie.After-count-of) where
+module _ (c : tie.After-count) where
   abbrev start : tie.Start
   start = c .before .before .before .before .before .before .before
 
   abbrev out : List ℕ
   out = c .before .before .before .write-number .last .1 .1 .0
 
-  behindN : Holds (lineN start) (buffer start) out (c .count-of .result)
+  behindN : Holds (lineN start) (buffer start) out (c .count .result)
   behindN =
       let call = c .before .before .before .write-number in
       let whole = number-has-room _ (start .args .n) (buffer start) (fitsN start) in
       record {
         content = content-is (lineN start) (buffer start) whole (call .ensures .1);
-        count = count-is (lineN start) (buffer start) whole (call .ensures .0) (c .count-of .ensures);
+        count = count-is (lineN start) (buffer start) whole (call .ensures .0) (c .count .ensures);
         size = call .kept .1 .1 .0;
       }
 
-  inside : c .count-of .result ≤ length out
+  inside : c .count .result ≤ length out
   inside = end-within behindN (fitsN start)
 
 -- ---- behind that of d
 
-module _ (c : tie.After-count-of2) where
-  abbrev first : tie.After-count-of
+module _ (c : tie.After-count2) where
+  abbrev first : tie.After-count
   first = c .before .before .before .before .before .before
 
   abbrev s : tie.Start
   s = start first
 
   abbrev end : ℕ
-  end = first .count-of .result
+  end = first .count .result
 
   behindD : Holds (numbersText (s .args .n) (s .args .d)) (buffer s)
       (back end (out first) (c .before .before .before .write-number2 .last .1 .1 .0))
-      (end + c .count-of2 .result)
+      (end + c .count2 .result)
   behindD =
       let call = c .before .before .before .write-number2 in
       let part = lent end (out first) in
       let whole = number-has-room _ (s .args .d) part (room-behind (behindN first) (lineD s) (fits s)) in
       holds-as
-      (holds-more (behindN first) (lineD s) (count-is (lineD s) part whole (call .ensures .0) (c .count-of2 .ensures))
+      (holds-more (behindN first) (lineD s) (count-is (lineD s) part whole (call .ensures .0) (c .count2 .ensures))
       (content-is (lineD s) part whole (call .ensures .1)) (call .kept .1 .1 .0))
       (numbers-parts (s .args .n) (s .args .d))
 

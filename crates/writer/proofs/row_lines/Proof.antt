@@ -59,7 +59,7 @@ module _ (c : tie.After-pair-count) where
 
 -- ---- behind each call
 
-module _ (c : tie.After-count-of) where
+module _ (c : tie.After-count) where
   abbrev start : tie.After-pair-count
   start = c .before .before .before .before .before .before .before .before
 
@@ -67,7 +67,7 @@ module _ (c : tie.After-count-of) where
   outG = c .before .before .before .write-rows .last .1 .1 .1 .1 .0
 
   abbrev endG : ℕ
-  endG = c .count-of .result
+  endG = c .count .result
 
   behindG : Holds (toG (code start)) (buffer start) outG endG
   unfolding generators
@@ -77,15 +77,15 @@ module _ (c : tie.After-count-of) where
       (qubits start .1) (fitsG start) in
       record {
         content = content-is (toG (code start)) (buffer start) whole (call .ensures .1);
-        count = count-is (toG (code start)) (buffer start) whole (call .ensures .0) (c .count-of .ensures);
+        count = count-is (toG (code start)) (buffer start) whole (call .ensures .0) (c .count .ensures);
         size = call .kept .1 .1 .1 .1 .0;
       }
 
   insideG : endG ≤ length outG
   insideG = end-within behindG (fitsG start)
 
-module _ (c : tie.After-count-of2) where
-  abbrev atG : tie.After-count-of
+module _ (c : tie.After-count2) where
+  abbrev atG : tie.After-count
   atG = c .before .before .before .before .before
 
   abbrev sX : tie.After-pair-count
@@ -95,7 +95,7 @@ module _ (c : tie.After-count-of2) where
   outX = back (endG atG) (outG atG) (c .before .before .before .write-logicals .last .1 .1 .1 .1 .0)
 
   abbrev endX : ℕ
-  endX = endG atG + c .count-of2 .result
+  endX = endG atG + c .count2 .result
 
   behindX : Holds (toX (code sX)) (buffer sX) outX endX
   behindX =
@@ -104,15 +104,15 @@ module _ (c : tie.After-count-of2) where
       let whole = rows-has-room 120 (code sX .n) (take (k sX) (code sX .x)) part (qubits sX .0) (qubits sX .1)
       (room-behind (behindG atG) (linesX sX) (omega (arith, fitsX sX, ap length (moreX sX)))) in
       holds-as
-      (holds-more (behindG atG) (linesX sX) (count-is (linesX sX) part whole (call .ensures .0) (c .count-of2 .ensures))
+      (holds-more (behindG atG) (linesX sX) (count-is (linesX sX) part whole (call .ensures .0) (c .count2 .ensures))
       (content-is (linesX sX) part whole (call .ensures .1)) (call .kept .1 .1 .1 .1 .0))
       (moreX sX)
 
   insideX : endX ≤ length outX
   insideX = end-within behindX (fitsX sX)
 
-module _ (c : tie.After-count-of3) where
-  abbrev atX : tie.After-count-of2
+module _ (c : tie.After-count3) where
+  abbrev atX : tie.After-count2
   atX = c .before .before .before .before .before
 
   abbrev s : tie.After-pair-count
@@ -120,14 +120,14 @@ module _ (c : tie.After-count-of3) where
 
   behindZ : Holds (allRowsText (code s)) (buffer s)
       (back (endX atX) (outX atX) (c .before .before .before .write-logicals2 .last .1 .1 .1 .1 .0))
-      (endX atX + c .count-of3 .result)
+      (endX atX + c .count3 .result)
   behindZ =
       let call = c .before .before .before .write-logicals2 in
       let part = lent (endX atX) (outX atX) in
       let whole = rows-has-room 122 (code s .n) (take (k s) (code s .z)) part (qubits s .0) (qubits s .1)
       (room-behind (behindX atX) (linesZ s) (omega (arith, fitsZ s, ap length (moreZ s)))) in
       holds-as
-      (holds-more (behindX atX) (linesZ s) (count-is (linesZ s) part whole (call .ensures .0) (c .count-of3 .ensures))
+      (holds-more (behindX atX) (linesZ s) (count-is (linesZ s) part whole (call .ensures .0) (c .count3 .ensures))
       (content-is (linesZ s) part whole (call .ensures .1)) (call .kept .1 .1 .1 .1 .0))
       (moreZ s ∙ rows-parts (code s))
 

@@ -83,7 +83,7 @@ module _ (c : tie.After-slice-known3) where
   insideR : endR ≤ length outR
   insideR = end-within behindRows (fitsRows sR)
 
-module _ (c : tie.After-count-of) where
+module _ (c : tie.After-count) where
   abbrev atR : tie.After-slice-known3
   atR = c .before .before .before .before .before
 
@@ -92,7 +92,7 @@ module _ (c : tie.After-count-of) where
 
   behindW : Holds (sheetText (code s)) (buffer s)
       (back (endR atR) (outR atR) (c .before .before .before .write-letters .last .1 .1 .1 .0))
-      (endR atR + c .count-of .result)
+      (endR atR + c .count .result)
   behindW =
       let call = c .before .before .before .write-letters in
       let part = lent (endR atR) (outR atR) in
@@ -100,7 +100,7 @@ module _ (c : tie.After-count-of) where
       let whole = letters-has-room 119 (code s .n) (code s .w) part (q .0) (q .1)
       (room-behind (behindRows atR) (claim s) (fitsW s)) in
       holds-as
-      (holds-more (behindRows atR) (claim s) (count-is (claim s) part whole (call .ensures .0) (c .count-of .ensures))
+      (holds-more (behindRows atR) (claim s) (count-is (claim s) part whole (call .ensures .0) (c .count .ensures))
       (content-is (claim s) part whole (call .ensures .1)) (call .kept .1 .1 .1 .0))
       (sheet-parts (code s))
 
