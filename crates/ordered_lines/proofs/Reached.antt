@@ -3,18 +3,17 @@ use mathlib.Core.List.{List, [], _++_, append-assoc}
 use mathlib.Core.Path.{_≡_, refl, ap, sym, subst, _∙_}
 use Prim.Native.Nat.{ℕ, _+_, _-_, _≤_}
 use native.Mathlib.Omega.{arith}
-use lib.ListN.{length, take, drop, length-append, length-drop}
+use lib.ListN.{length, drop, length-append, length-drop}
 use lib.Seq.{drop-drop, drop-at}
 use Rattle.pauli.specs.declared.Pauli.{Pauli}
 use Rattle.refusals.specs.declared.Lines.{Lines}
 use Rattle.refusals.specs.declared.Refusal.{Refusal}
 use Rattle.pauli.specs.Product.{identity}
 use Rattle.code_record.specs.Record.{mostQubits}
-use Rattle.sheet.specs.Reader.{Parsed, Reader, got, stop, done, generatorLines, claimLine}
+use Rattle.sheet.specs.Reader.{Parsed, got, stop, done, generatorLines, claimLine}
 use Rattle.sheet.specs.Writer.{rowLines}
 use Rattle.sheet.proofs.Consumed.{OfForm, generator-lines-outcome, logical-lines-outcome, claim-line-outcome}
 use Rattle.sheet.proofs.Outcome.{Outcome, gets, stops, continue-outcome, Took}
-use Rattle.sheet.proofs.Parts.{tail-of}
 use Rattle.lines.specs.declared.NumberLine.{NumberLine}
 use Rattle.lines.specs.declared.RowLine.{RowLine}
 use Rattle.lines.specs.Answers.{linesOf, valueOr, numberAnswer, rowAnswer, withinQubits}
@@ -30,19 +29,6 @@ pub record Reached {A : Type 0} (s : List ℕ) (end : ℕ) (value : A) (definiti
   pub gives : definition ≡ got value (drop end s)
 
 module _ {A : Type 0} {s : List ℕ} {answer : Lines} {value : A} {definition : Parsed A} where
-  pub reads-refused : {refusal : Refusal} → answer ≡ Lines.Refused refusal → definition ≡ stop refusal
-      → Reads s answer value definition
-  reads-refused e f =
-      record {
-        within = subst (λ a. usedIn a ≤ length s) (sym e) (omega arith);
-        parses = ap (λ a. parsed s a value) e ∙ sym f;
-      }
-
-  pub reads-read : {used : ℕ} → answer ≡ Lines.Read used → used ≤ length s → definition ≡ got value (drop used s)
-      → Reads s answer value definition
-  reads-read e h f =
-      record { within = subst (λ a. usedIn a ≤ length s) (sym e) h; parses = ap (λ a. parsed s a value) e ∙ sym f }
-
   -- the definition's outcome, from the answer
   pub was-read : {used : ℕ} → Reads s answer value definition → answer ≡ Lines.Read used
       → Reached s used value definition
@@ -55,16 +41,6 @@ module _ {A : Type 0} {s : List ℕ} {answer : Lines} {value : A} {definition : 
   pub was-refused : {refusal : Refusal} → Reads s answer value definition → answer ≡ Lines.Refused refusal
       → definition ≡ stop refusal
   was-refused h e = sym (h .parses) ∙ ap (λ a. parsed s a value) e
-
-  pub reads-as : {other : Parsed A} → definition ≡ other → Reads s answer value definition → Reads s answer value other
-  reads-as e h = record { within = h .within; parses = h .parses ∙ e }
-
--- A reader that is lent the bytes from a place on.
-pub on-tail : {A : Type 0} {answer : Lines} {value : A} (reader : Reader A) (from : ℕ) (s : List ℕ)
-    → Reads (take (length s - from) (drop from s)) answer value (reader (take (length s - from) (drop from s)))
-    → Reads (drop from s) answer value (reader (drop from s))
-on-tail {answer = answer} {value = value} reader from s h =
-    subst (λ t. Reads t answer value (reader t)) (tail-of from s) h
 
 -- One more line from a place on.
 pub reached-more : {A : Type 0} {answer : Lines} {value : A} {definition : Parsed A} {from more : ℕ} {s : List ℕ}

@@ -7,7 +7,7 @@ use Rattle.pauli.specs.declared.Pauli.{Pauli}
 use Rattle.refusals.specs.declared.Lines.{Lines}
 use Rattle.code_record.specs.declared.LinesReading.{LinesReading}
 use Rattle.code_record.specs.Record.{generatorRoom, logicalRoom, firstGeneratorAt, filled, codeOf, emptyCode}
-use Rattle.sheet.specs.Reader.{Parsed, Reader, SheetRead, got, stop, done, continue, _andThen_, answered}
+use Rattle.sheet.specs.Reader.{Parsed, Reader, SheetRead, got, stop, done, _andThen_, answered}
 use Rattle.sheet.specs.Reader.{distanceLine, generatorLines, claimLine, linesAfter}
 use Rattle.row_lines.specs.declared.Rows.{Rows}
 use Rattle.row_lines.specs.declared.Logicals.{Logicals}

@@ -8,7 +8,7 @@ use native.Mathlib.Omega.{arith}
 use Rattle.pauli.specs.declared.Pauli.{Pauli}
 use Rattle.letters.specs.Lists.{bytes}
 use Rattle.refusals.specs.declared.Refusal.{Refusal}
-use Rattle.sheet.specs.Reader.{Parsed, Reader, got, stop, done, continue, begins, isLine, lineOf}
+use Rattle.sheet.specs.Reader.{Reader, got, stop, done, continue, begins, isLine, lineOf}
 use Rattle.sheet.specs.Reader.{rowLine, rowsUpTo}
 use Rattle.lines.proofs.Reading.{then-got, then-stop}
 use Rattle.row_lines.specs.Answers.{rowsLeft}

@@ -1,11 +1,11 @@
 -- The x and z lines, and then w; a refusal ends it.
 use mathlib.Core.List.{List}
-use mathlib.Core.Path.{_≡_, ap, sym, subst, _∙_}
+use mathlib.Core.Path.{ap, sym, subst, _∙_}
 use Prim.Native.Nat.{ℕ, _+_, _*_, _≤_}
 use native.Mathlib.Nat.{lt-of-le-of-lt}
 use native.Mathlib.Omega.{arith}
 use borrow.Author.Needs.{needs}
-use lib.ListN.{length, drop}
+use lib.ListN.{drop}
 use Rattle.pauli.specs.declared.Pauli.{Pauli}
 use Rattle.code_record.specs.Record.{mostQubits, pairCount}
 use Rattle.sheet.specs.Reader.{Reader, SheetRead, answered}
@@ -14,7 +14,7 @@ use Rattle.lines.specs.Answers.{withinQubits}
 use Rattle.lines.proofs.Reading.{then-got, then-stop}
 use Rattle.row_lines.specs.declared.Logicals.{Logicals}
 use Rattle.row_lines.specs.Answers.{pairLines, AnswersLogicals}
-use Rattle.ordered_lines.specs.Answers.{Reads, withClaim, countedRows}
+use Rattle.ordered_lines.specs.Answers.{Reads, withClaim}
 use Rattle.ordered_lines.proofs.Reached.{Reached, was-refused, reached-more}
 use Rattle.ordered_lines.proofs.Reached.{the-logicals, logicals-read, logicals-held}
 use Rattle.ordered_lines.proofs.Sheets.{pairs-first, sheet-refused}
