@@ -5,6 +5,7 @@ use code_record::LOGICAL_ROOM;
 use code_record::Refusal;
 use code_record::Written;
 use pauli::Pauli;
+use row_writer::count_of;
 ghost use mathlib.Core.Path.{_≡_};
 ghost use Prim.Native.Nat.{_≤_, min};
 ghost use lib.ListN.{length, take};
@@ -37,7 +38,7 @@ fn row_lines(
     let mut end: usize = 0;
     let mut place: usize = 0;
     while place < count {
-        end += row_writer::count_of(row_writer::write_row(key, n, rows[place], &mut out[end..]));
+        end += count_of(row_writer::write_row(key, n, rows[place], &mut out[end..]));
         place += 1;
     }
     end

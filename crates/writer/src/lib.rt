@@ -3,6 +3,7 @@
 use code_record::Code;
 use code_record::Refusal;
 use code_record::Written;
+use row_writer::count_of;
 ghost use mathlib.Core.Bool.{true};
 ghost use mathlib.Core.Path.{_≡_};
 ghost use Prim.Native.Nat.{_≤_};
@@ -18,8 +19,8 @@ fn number_lines(out: &mut [u8], n: usize, d: usize) -> usize
     ensures { λ r. ⌜ r ≡ length (numbersText n d) ⌝ }
     ensures { λ _. ⌜ now (out .exit) ≡ laid (numbersText n d) (now (out .entry)) ⌝ }
 {
-    let mut end = row_writer::count_of(number_writer::write_number(b"n=", n, out));
-    end += row_writer::count_of(number_writer::write_number(b"d=", d, &mut out[end..]));
+    let mut end = count_of(number_writer::write_number(b"n=", n, out));
+    end += count_of(number_writer::write_number(b"d=", d, &mut out[end..]));
     end
 }
 
@@ -30,15 +31,13 @@ fn row_lines(out: &mut [u8], code: Code) -> usize
     ensures { λ r. ⌜ r ≡ length (allRowsText code) ⌝ }
     ensures { λ _. ⌜ now (out .exit) ≡ laid (allRowsText code) (now (out .entry)) ⌝ }
 {
-    let n = code.n;
-    let r = code.r;
-    let k = code_record::pair_count(n, r);
+    let k = code_record::pair_count(code.n, code.r);
     let g = code.g;
     let x = code.x;
     let z = code.z;
-    let mut end = row_writer::count_of(rows_writer::write_rows(b'g', n, r, g, out));
-    end += row_writer::count_of(rows_writer::write_logicals(b'x', n, k, x, &mut out[end..]));
-    end += row_writer::count_of(rows_writer::write_logicals(b'z', n, k, z, &mut out[end..]));
+    let mut end = count_of(rows_writer::write_rows(b'g', code.n, code.r, g, out));
+    end += count_of(rows_writer::write_logicals(b'x', code.n, k, x, &mut out[end..]));
+    end += count_of(rows_writer::write_logicals(b'z', code.n, k, z, &mut out[end..]));
     end
 }
 
@@ -51,7 +50,7 @@ fn sheet_lines(out: &mut [u8], code: Code) -> usize
 {
     let mut end = number_lines(out, code.n, code.d);
     end += row_lines(&mut out[end..], code);
-    end += row_writer::count_of(row_writer::write_letters(b'w', code.n, code.w, &mut out[end..]));
+    end += count_of(row_writer::write_letters(b'w', code.n, code.w, &mut out[end..]));
     end
 }
 
