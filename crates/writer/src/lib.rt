@@ -30,15 +30,13 @@ fn row_lines(out: &mut [u8], code: Code) -> usize
     ensures { λ r. ⌜ r ≡ length (allRowsText code) ⌝ }
     ensures { λ _. ⌜ now (out .exit) ≡ laid (allRowsText code) (now (out .entry)) ⌝ }
 {
-    let n = code.n;
-    let r = code.r;
-    let k = code_record::pair_count(n, r);
+    let k = code_record::pair_count(code.n, code.r);
     let g = code.g;
     let x = code.x;
     let z = code.z;
-    let mut end = rows_writer::write_rows(b'g', n, r, g, out).count();
-    end += rows_writer::write_logicals(b'x', n, k, x, &mut out[end..]).count();
-    end += rows_writer::write_logicals(b'z', n, k, z, &mut out[end..]).count();
+    let mut end = rows_writer::write_rows(b'g', code.n, code.r, g, out).count();
+    end += rows_writer::write_logicals(b'x', code.n, k, x, &mut out[end..]).count();
+    end += rows_writer::write_logicals(b'z', code.n, k, z, &mut out[end..]).count();
     end
 }
 
