@@ -11,7 +11,7 @@ use Rattle.letters.specs.Lists.{allOf, anyOf}
 use Rattle.pauli.specs.Product.{identity}
 use Rattle.code_record.specs.declared.Code.{Code}
 use Rattle.code_record.specs.Definitions.{definitions}
-use Rattle.code_record.specs.Record.{generatorRoom, logicalRoom, codeOf, emptyCode, filled, withinLimits, radius}
+use Rattle.code_record.specs.Record.{rowRoom, codeOf, emptyCode, filled, withinLimits, radius}
 
 zz : Pauli
 zz = ofLetters (Z ∷ Z ∷ [])
@@ -63,9 +63,9 @@ outside =
       n = 2;
       r = 1;
       d = 1;
-      g = filled generatorRoom (zz ∷ zz ∷ []);
-      x = filled logicalRoom (xx ∷ []);
-      z = filled logicalRoom (zi ∷ []);
+      g = filled rowRoom (zz ∷ zz ∷ []);
+      x = filled rowRoom (xx ∷ []);
+      z = filled rowRoom (zi ∷ []);
       w = zi;
     }
     ∷ emptyCode ∷ []

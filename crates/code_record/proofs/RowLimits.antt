@@ -19,7 +19,7 @@ use Rattle.code_record.proofs.Limits.{all-first}
 use Rattle.code_record.specs.declared.Code.{Code}
 use Rattle.refusals.specs.declared.Family.{Family}
 use Rattle.refusals.specs.declared.Family.the-variants.{Generator, LogicalX, LogicalZ}
-use Rattle.code_record.specs.Record.{mostQubits, rowsOf, roomOf, isRow, areRows, Sized}
+use Rattle.code_record.specs.Record.{mostQubits, rowsOf, rowRoom, isRow, areRows, Sized}
 
 -- ---- `a && b`: b where a holds, a where it does not
 
@@ -57,7 +57,7 @@ same-identity P =
 
 -- ---- the rows of a family
 
-pub room-of : (c : Code) → Sized c → (family : Family) → length (rowsOf family c) ≡ roomOf family
+pub room-of : (c : Code) → Sized c → (family : Family) → length (rowsOf family c) ≡ rowRoom
 room-of c sized Generator = sized .roomG
 room-of c sized LogicalX = sized .roomX
 room-of c sized LogicalZ = sized .roomZ

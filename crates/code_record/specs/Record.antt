@@ -17,12 +17,9 @@ use Rattle.refusals.specs.declared.Family.the-variants.{Generator, LogicalX, Lo
 use Rattle.refusals.specs.declared.Refusal.{Refusal}
 use Rattle.refusals.specs.Refusals.{refuseIf}
 
--- RULES, "The record": the places for generators, and for logicals of each kind; the most qubits; the longest distance.
-abbrev pub generatorRoom : ℕ
-generatorRoom = 32
-
-abbrev pub logicalRoom : ℕ
-logicalRoom = 24
+-- RULES, "The record": the places for rows of each family; the most qubits; the longest distance.
+abbrev pub rowRoom : ℕ
+rowRoom = 32
 
 abbrev pub mostQubits : ℕ
 mostQubits = 24
@@ -57,16 +54,11 @@ logicalXs c = take (logicalCount c) (c .x)
 unfoldable pub logicalZs : Code → List Pauli
 logicalZs c = take (logicalCount c) (c .z)
 
--- RULES, "The record": a family of rows has its array, and its places there.
+-- RULES, "The record": a family of rows has its array.
 abbrev pub rowsOf : Family → Code → List Pauli
 rowsOf Generator c = c .g
 rowsOf LogicalX c = c .x
 rowsOf LogicalZ c = c .z
-
-abbrev pub roomOf : Family → ℕ
-roomOf Generator = generatorRoom
-roomOf LogicalX = logicalRoom
-roomOf LogicalZ = logicalRoom
 
 -- RULES, "The sheet": lines count from 1, and are n, d, the generators, the X logicals, the Z logicals, w. So these
 -- lines of a record's written sheet are that of its first generator, of its first X logical, and of w.
@@ -92,9 +84,9 @@ codeOf n d gs xs zs w = record {
   n = n;
   r = length gs;
   d = d;
-  g = filled generatorRoom gs;
-  x = filled logicalRoom xs;
-  z = filled logicalRoom zs;
+  g = filled rowRoom gs;
+  x = filled rowRoom xs;
+  z = filled rowRoom zs;
   w = w;
 }
 
@@ -104,17 +96,17 @@ emptyCode = record {
   n = 0;
   r = 0;
   d = 0;
-  g = replicate generatorRoom identity;
-  x = replicate logicalRoom identity;
-  z = replicate logicalRoom identity;
+  g = replicate rowRoom identity;
+  x = replicate rowRoom identity;
+  z = replicate rowRoom identity;
   w = identity;
 }
 
 -- A record as a machine holds it: each array has its room.
 pub record Sized (c : Code) : Type 0 where
-  pub roomG : length (c .g) ≡ generatorRoom
-  pub roomX : length (c .x) ≡ logicalRoom
-  pub roomZ : length (c .z) ≡ logicalRoom
+  pub roomG : length (c .g) ≡ rowRoom
+  pub roomX : length (c .x) ≡ rowRoom
+  pub roomZ : length (c .z) ≡ rowRoom
 
 unfoldable pub between : ℕ → ℕ → ℕ → Bool
 between low high m = leb low m && leb m high

@@ -8,14 +8,11 @@ ghost use Prim.Native.Nat.{_≤_};
 ghost use lib.ListN.{getD};
 ghost use Rattle.pauli.specs.Product.{identity, samePauli};
 ghost use Rattle.code_record.specs.Record.{mostQubits, pairCount, mostGenerators, generatorsAt};
-ghost use Rattle.code_record.specs.Record.{rowsOf, roomOf, emptyCode};
+ghost use Rattle.code_record.specs.Record.{rowsOf, emptyCode};
 ghost use Rattle.code_record.specs.Record.{between, onQubits, isRow, isClaim, areRows, withinLimits};
 
-// How many generators a record has room for.
-pub const GENERATOR_ROOM: usize = 32;
-
-// How many logicals of each kind it has room for.
-pub const LOGICAL_ROOM: usize = 24;
+// How many rows of each family a record has room for.
+pub const ROW_ROOM: usize = 32;
 
 // The most qubits of a code.
 pub const MOST_QUBITS: usize = 24;
@@ -53,9 +50,9 @@ pub struct Code {
     pub n: usize,
     pub r: usize,
     pub d: usize,
-    pub g: [Pauli; GENERATOR_ROOM],
-    pub x: [Pauli; LOGICAL_ROOM],
-    pub z: [Pauli; LOGICAL_ROOM],
+    pub g: [Pauli; ROW_ROOM],
+    pub x: [Pauli; ROW_ROOM],
+    pub z: [Pauli; ROW_ROOM],
     pub w: Pauli,
 }
 
@@ -69,9 +66,9 @@ impl Code {
             n: 0,
             r: 0,
             d: 0,
-            g: [one; GENERATOR_ROOM],
-            x: [one; LOGICAL_ROOM],
-            z: [one; LOGICAL_ROOM],
+            g: [one; ROW_ROOM],
+            x: [one; ROW_ROOM],
+            z: [one; ROW_ROOM],
             w: one,
         }
     }
@@ -80,24 +77,14 @@ impl Code {
     pub fn row(self, family: Family, place: usize) -> Pauli
         ensures { λ r. ⌜ r ≡ getD (rowsOf family self) place identity ⌝ }
     {
-        match family {
-            Family::Generator => {
-                if place < GENERATOR_ROOM {
-                    return self.g[place];
-                }
-            }
-            Family::LogicalX => {
-                if place < LOGICAL_ROOM {
-                    return self.x[place];
-                }
-            }
-            Family::LogicalZ => {
-                if place < LOGICAL_ROOM {
-                    return self.z[place];
-                }
-            }
+        if ROW_ROOM <= place {
+            return Pauli::identity();
         }
-        Pauli::identity()
+        match family {
+            Family::Generator => self.g[place],
+            Family::LogicalX => self.x[place],
+            Family::LogicalZ => self.z[place],
+        }
     }
 
     // The line of its first generator in its written sheet.
@@ -141,9 +128,8 @@ impl Code {
         ensures { λ r. ⌜ r ≡ areRows (self .n) count (rowsOf family self) ⌝ }
     {
         let n = self.n;
-        let room = room_of(family);
         let mut place: usize = 0;
-        while place < room {
+        while place < ROW_ROOM {
             let p = self.row(family, place);
             if place < count {
                 if !is_row(p, n) {
@@ -194,17 +180,6 @@ fn is_identity(p: Pauli) -> bool
     ensures { λ r. ⌜ r ≡ samePauli identity p ⌝ }
 {
     p.p % 4 == 0 && (p.a == 0 && p.b == 0)
-}
-
-// How many places the array of a family has.
-fn room_of(family: Family) -> usize
-    ensures { λ r. ⌜ r ≡ roomOf family ⌝ }
-{
-    match family {
-        Family::Generator => GENERATOR_ROOM,
-        Family::LogicalX => LOGICAL_ROOM,
-        Family::LogicalZ => LOGICAL_ROOM,
-    }
 }
 
 // An enum holds no array, so the record stands beside the answer: all numbers 0 and all rows +I where it is a refusal.

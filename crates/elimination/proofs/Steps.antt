@@ -11,7 +11,7 @@ use Rattle.pauli.specs.declared.Pauli.{Pauli}
 use Rattle.pauli.specs.Product.{identity, sameMasks, samePauli}
 use Rattle.refusals.specs.declared.Family.{Family}
 use Rattle.refusals.specs.declared.Refusal.{Refusal}
-use Rattle.code_record.specs.Record.{generatorRoom, isRow}
+use Rattle.code_record.specs.Record.{rowRoom, isRow}
 use Rattle.refusals.specs.Refusals.{_then_}
 use Rattle.stabilizer.specs.Canonical.{reduced, reducesToIdentity, added, canonicalGenerators}
 use Rattle.stabilizer.specs.Checks.{minusIdentity, firstFault, dependence}
@@ -106,7 +106,7 @@ module _ (n line : ℕ) (rows : List Pauli) (count : ℕ) where
           told ∙ ap (λ r. kindOf (reduced (r .n) (rowsIn r) P)) (s .held)
           ∙ ap₂ (λ hs P. kindOf (reduced n hs P)) (rows-of n (canonicalGenerators n (take place rows))) here
 
-      reduced-is : count ≤ generatorRoom → kind ≡ IsIndependent
+      reduced-is : count ≤ rowRoom → kind ≡ IsIndependent
           → addition hs P ≡ reducedOf n (canonicalGenerators n (take (place + 1) rows))
       unfolding reducedOf
       reduced-is small e =
@@ -143,7 +143,7 @@ module _ (n line : ℕ) (rows : List Pauli) (count : ℕ) where
       unfolding _then_
       stepped-fault e f = ap (λ fault. fault then Left dependence rows count (place + 1) line) (sym f) ∙ found e
 
-      pub stepped-more : {longer : ReducedRows} → count ≤ generatorRoom → kind ≡ IsIndependent → longer ≡ addition hs P
+      pub stepped-more : {longer : ReducedRows} → count ≤ rowRoom → kind ≡ IsIndependent → longer ≡ addition hs P
           → Stepped (place + 1) longer
       unfolding _then_ Q reducesToIdentity
       stepped-more small e added =

@@ -14,7 +14,7 @@ ghost use Prim.Native.Nat.{_<_};
 ghost use lib.ListN.{take, getD};
 ghost use Rattle.letters.specs.Lists.{anyOf};
 ghost use Rattle.pauli.specs.Product.{identity, anticommutes};
-ghost use Rattle.code_record.specs.Record.{generatorRoom, generators, generatorsAt, withinLimits};
+ghost use Rattle.code_record.specs.Record.{rowRoom, generators, generatorsAt, withinLimits};
 ghost use Rattle.stabilizer.specs.Checks.{firstFault, clash};
 ghost use Rattle.elimination.specs.Answers.{checkedRefusal, eliminated, independence, elimination};
 
@@ -32,7 +32,7 @@ pub struct Elimination {
 
 // Whether the generator at a place anticommutes with an earlier one.
 fn clashes(code: Code, place: usize) -> bool
-    requires { ⌜ place < generatorRoom ⌝ }
+    requires { ⌜ place < rowRoom ⌝ }
     ensures { λ r. ⌜ r ≡ anyOf (anticommutes (getD (code .g) place identity)) (take place (code .g)) ⌝ }
 {
     let p = code.g[place];

@@ -6,7 +6,7 @@ use lib.ListN.{length, drop}
 use Rattle.pauli.specs.declared.Pauli.{Pauli}
 use Rattle.refusals.specs.declared.Lines.{Lines}
 use Rattle.code_record.specs.declared.LinesReading.{LinesReading}
-use Rattle.code_record.specs.Record.{generatorRoom, logicalRoom, firstGeneratorAt, filled, codeOf, emptyCode}
+use Rattle.code_record.specs.Record.{rowRoom, firstGeneratorAt, filled, codeOf, emptyCode}
 use Rattle.sheet.specs.Reader.{Parsed, Reader, SheetRead, got, stop, done, _andThen_, answered}
 use Rattle.sheet.specs.Reader.{distanceLine, generatorLines, claimLine, linesAfter}
 use Rattle.row_lines.specs.declared.Rows.{Rows}
@@ -53,10 +53,10 @@ ReadsOn s from reader reading = reading ≡ answered s (reader (drop from s))
 
 -- The same behind the rows that the arrays hold.
 abbrev pub countedRows : List Pauli → ℕ × List Pauli
-countedRows rows = (length rows, filled generatorRoom rows)
+countedRows rows = (length rows, filled rowRoom rows)
 
 abbrev pub filledLogicals : (xs zs : List Pauli) → List Pauli × List Pauli
-filledLogicals xs zs = (filled logicalRoom xs, filled logicalRoom zs)
+filledLogicals xs zs = (filled rowRoom xs, filled rowRoom zs)
 
 abbrev pub ReadsAfter : List ℕ → ℕ → Rows → (List Pauli → Reader SheetRead) → LinesReading → Type 0
 ReadsAfter s from generators after reading =

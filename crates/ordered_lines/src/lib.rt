@@ -11,7 +11,7 @@ use row_lines::RowsAnswer;
 ghost use mathlib.Core.Path.{_≡_};
 ghost use Prim.Native.Nat.{_+_, _*_, _≤_};
 ghost use lib.ListN.{length};
-ghost use Rattle.code_record.specs.Record.{generatorRoom, logicalRoom, mostQubits, firstGeneratorAt};
+ghost use Rattle.code_record.specs.Record.{rowRoom, mostQubits, firstGeneratorAt};
 ghost use Rattle.sheet.specs.Reader.{linesAfter, sheetLines, answered};
 ghost use Rattle.row_lines.specs.Answers.{before, linesAt};
 ghost use Rattle.ordered_lines.specs.Answers.{emptyBeside, withClaim, linesFromG, linesFromD};
@@ -30,8 +30,8 @@ pub fn refused(answer: Lines) -> LinesReading
 
 // The answer for lines of rows, where the first of them is the line `at` of the sheet.
 fn lines_at(answer: RowsAnswer, at: usize) -> Lines
-    requires { ⌜ before answer ≤ 2 * logicalRoom ⌝ }
-    requires { ⌜ at ≤ firstGeneratorAt + generatorRoom ⌝ }
+    requires { ⌜ before answer ≤ 2 * rowRoom ⌝ }
+    requires { ⌜ at ≤ firstGeneratorAt + rowRoom ⌝ }
     ensures { λ r. ⌜ r ≡ linesAt at answer ⌝ }
 {
     match answer {
@@ -90,7 +90,7 @@ fn lines_after(
 ) -> LinesReading
     requires { ⌜ from ≤ length (now s) ⌝ }
     requires { ⌜ n ≤ mostQubits ⌝ }
-    requires { ⌜ at ≤ firstGeneratorAt + generatorRoom ⌝ }
+    requires { ⌜ at ≤ firstGeneratorAt + rowRoom ⌝ }
     ensures { λ q. ⌜ ReadsAfter (now (s .entry)) from generators (linesAfter n d at) q ⌝ }
 {
     let r = generators.count;

@@ -5,11 +5,11 @@ use lib.ListN.{length, length-map}
 use denote.Laws.{Is}
 use denote.Struct.Declared.{row}
 use denote.Struct.Laws.{val}
-use Rattle.code_record.specs.Record.{generatorRoom}
+use Rattle.code_record.specs.Record.{rowRoom}
 use Rattle.reduced_rows.specs.declared.ReducedRows.{ReducedRows}
 use Rattle.reduced_rows.proofs.ReducedRows.{the-type}
 use Rattle.reduced_rows.proofs.ReducedRows.Laws.{the-laws}
 
 pub room-of : (hs : ReducedRows) → Is (row the-type) hs (val the-type the-laws hs ∷ [])
-    → length (hs .rows) ≡ generatorRoom
+    → length (hs .rows) ≡ rowRoom
 room-of hs owned = sym (length-map (hs .rows) _) ∙ owned .1 .1 .1 .1 .0 .1 .0 .1

@@ -7,7 +7,7 @@ use native.Mathlib.Omega.{arith}
 use lib.Dec.{ltb}
 use lib.ListN.{length, drop, set, length-append}
 use Rattle.pauli.specs.declared.Pauli.{Pauli}
-use Rattle.code_record.specs.Record.{generatorRoom}
+use Rattle.code_record.specs.Record.{rowRoom}
 use Rattle.stabilizer.specs.Canonical.{pivot, insertByPivot}
 use Rattle.reduced_rows.specs.declared.ReducedRows.{ReducedRows}
 use Rattle.reduced_rows.specs.Rows.{reducedOf}
@@ -29,7 +29,7 @@ grown-as {n} {hs} {all = all} {size} g e = subst (λ r. Grown n hs r all size) e
 
 -- One row is stored behind the others.
 pub grown-more : {n : ℕ} {hs : ReducedRows} {rest all : List Pauli} {size : ℕ} (h : Pauli)
-    → Grown n hs (h ∷ rest) all size → size < generatorRoom
+    → Grown n hs (h ∷ rest) all size → size < rowRoom
     → Grown n (value (hs .n) (size + 1) (set (hs .rows) size h)) rest all (size + 1)
 unfolding reducedOf
 grown-more {n} {hs} {rest} {all} {size} h g room =

@@ -7,7 +7,7 @@ use lib.Dec.{eqb, ltb}
 use borrow.Author.Tests.{eq-eqb, ne-eqb, lt-ltb, le-ltb}
 use Rattle.pauli.specs.declared.Pauli.{Pauli}
 use Rattle.pauli.specs.Product.{identity, modulo4, sameMasks, samePauli, hasPhase}
-use Rattle.code_record.specs.Record.{generatorRoom}
+use Rattle.code_record.specs.Record.{rowRoom}
 use Rattle.code_record.proofs.Limits.{both}
 use Rattle.code_record.proofs.RowLimits.{eqb-swap}
 use Rattle.stabilizer.specs.Canonical.{cleared, reduced, reducesToIdentity, insertByPivot, added}
@@ -75,22 +75,22 @@ module _ (hs : ReducedRows) (P Q : Pauli) (left : Q ≡ reduced (hs .n) (rowsIn 
   inserted R = insertByPivot (hs .n) R (map (cleared (hs .n) R) (rowsIn hs))
 
   -- Whether what is left joins the rows, and what is then there.
-  stepped : {after : ReducedRows} {t : Bool} → (ltb (hs .count) generatorRoom && not (sameMasks Q identity)) ≡ t
+  stepped : {after : ReducedRows} {t : Bool} → (ltb (hs .count) rowRoom && not (sameMasks Q identity)) ≡ t
       → after ≡ cond t (reducedOf (hs .n) (added (hs .n) (rowsIn hs) P)) hs → after ≡ addition hs P
   unfolding addition joins reducesToIdentity
   stepped test e =
       e ∙ ap (λ t. cond t (reducedOf (hs .n) (added (hs .n) (rowsIn hs) P)) hs)
-      (sym test ∙ ap (λ R. ltb (hs .count) generatorRoom && not (sameMasks R identity)) left)
+      (sym test ∙ ap (λ R. ltb (hs .count) rowRoom && not (sameMasks R identity)) left)
 
   -- Nothing but a phase is left, or the array is full: the rows stay.
-  pub step-dependent : hs .count < generatorRoom → sameMasks Q identity ≡ true → hs ≡ addition hs P
+  pub step-dependent : hs .count < rowRoom → sameMasks Q identity ≡ true → hs ≡ addition hs P
   step-dependent room none = stepped (ap₂ (λ room none. room && not none) (lt-ltb _ _ room) none) refl
 
-  pub step-full : generatorRoom ≤ hs .count → hs ≡ addition hs P
+  pub step-full : rowRoom ≤ hs .count → hs ≡ addition hs P
   step-full full = stepped (ap (λ room. room && not (sameMasks Q identity)) (le-ltb _ _ full)) refl
 
   -- What is left joins them.
-  pub step-joins : {R : Pauli} {longer : ReducedRows} → hs .count < generatorRoom → sameMasks Q identity ≡ false
+  pub step-joins : {R : Pauli} {longer : ReducedRows} → hs .count < rowRoom → sameMasks Q identity ≡ false
       → R ≡ modulo4 Q → longer ≡ reducedOf (hs .n) (insertByPivot (hs .n) R (map (cleared (hs .n) R) (rowsIn hs)))
       → longer ≡ addition hs P
   unfolding inserted added
@@ -101,7 +101,7 @@ module _ (hs : ReducedRows) (P Q : Pauli) (left : Q ≡ reduced (hs .n) (rowsIn 
       ∙ ap (λ R. reducedOf (hs .n) (cond (sameMasks (modulo4 R) identity) (rowsIn hs) (inserted (modulo4 R)))) left)
 
 -- Where the array has room, an independent row joins the rows.
-pub independent-joins : (hs : ReducedRows) (P : Pauli) → hs .count < generatorRoom
+pub independent-joins : (hs : ReducedRows) (P : Pauli) → hs .count < rowRoom
     → kindOf (reduced (hs .n) (rowsIn hs) P) ≡ IsIndependent
     → addition hs P ≡ reducedOf (hs .n) (added (hs .n) (rowsIn hs) P)
 unfolding addition joins reducesToIdentity

@@ -8,7 +8,7 @@ use lib.ListN.{length, drop, getD, set, length-append, length-take}
 use Rattle.pauli.specs.declared.Pauli.{Pauli}
 use Rattle.pauli.specs.Product.{identity}
 use Rattle.code_record.proofs.Filled.{take-filled, filled-more}
-use Rattle.code_record.specs.Record.{generatorRoom, filled}
+use Rattle.code_record.specs.Record.{rowRoom, filled}
 use Rattle.stabilizer.specs.Canonical.{cleared, reduced}
 use Rattle.reduced_rows.specs.declared.ReducedRows.{ReducedRows}
 use Rattle.reduced_rows.specs.Rows.{rowsIn, reducedOf}
@@ -19,17 +19,17 @@ value n count rows = record { n = n; count = count; rows = rows }
 
 pub rows-of : (n : ℕ) (rows : List Pauli) → rowsIn (reducedOf n rows) ≡ rows
 unfolding rowsIn reducedOf
-rows-of n rows = take-filled generatorRoom rows (length rows) refl
+rows-of n rows = take-filled rowRoom rows (length rows) refl
 
 pub count-is : (hs : ReducedRows) → hs .count ≤ length (hs .rows) → hs .count ≡ length (rowsIn hs)
 unfolding rowsIn
 count-is hs few = omega (arith, length-take (hs .count) (hs .rows))
 
-pub pushed : (n : ℕ) (rows : List Pauli) (p : Pauli) → length rows < generatorRoom
-    → value n (length rows + 1) (set (filled generatorRoom rows) (length rows) p) ≡ reducedOf n (rows ++ p ∷ [])
+pub pushed : (n : ℕ) (rows : List Pauli) (p : Pauli) → length rows < rowRoom
+    → value n (length rows + 1) (set (filled rowRoom rows) (length rows) p) ≡ reducedOf n (rows ++ p ∷ [])
 unfolding reducedOf
 pushed n rows p room =
-    ap₂ (value n) (omega (arith, length-append rows (p ∷ []))) (filled-more generatorRoom rows p room)
+    ap₂ (value n) (omega (arith, length-append rows (p ∷ []))) (filled-more rowRoom rows p room)
 
 -- ---- the rows one by one
 

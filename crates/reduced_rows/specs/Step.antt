@@ -5,7 +5,7 @@ use Prim.Native.Nat.{ℕ}
 use lib.Dec.{ltb}
 use Rattle.pauli.specs.declared.Pauli.{Pauli}
 use Rattle.pauli.specs.Product.{identity, sameMasks, samePauli}
-use Rattle.code_record.specs.Record.{generatorRoom}
+use Rattle.code_record.specs.Record.{rowRoom}
 use Rattle.stabilizer.specs.Canonical.{pivot, reducesToIdentity, added}
 use Rattle.stabilizer.specs.Checks.{minusIdentity}
 use Rattle.reduced_rows.specs.declared.ReducedRows.{ReducedRows}
@@ -25,7 +25,7 @@ belowPivot n q (h ∷ hs) = elim (ltb (pivot n q) (pivot n h)) [ true ↦ [] | f
 
 -- Whether a row joins the rows: there is room for one more, and it is independent of them.
 unfoldable pub joins : ReducedRows → Pauli → Bool
-joins hs P = ltb (hs .count) generatorRoom && not (reducesToIdentity (hs .n) (rowsIn hs) P)
+joins hs P = ltb (hs .count) rowRoom && not (reducesToIdentity (hs .n) (rowsIn hs) P)
 
 -- The elimination step. Where the row does not join them, the rows stay as they were.
 unfoldable pub addition : ReducedRows → Pauli → ReducedRows

@@ -1,5 +1,5 @@
 // Rows in reduced echelon form: what they leave of a row, what the row is to them, and the rows with one more.
-use code_record::GENERATOR_ROOM;
+use code_record::ROW_ROOM;
 use columns::cleared;
 use columns::pivot;
 use pauli::Pauli;
@@ -7,7 +7,7 @@ ghost use mathlib.Core.List.{[], map};
 ghost use mathlib.Core.Path.{_≡_};
 ghost use Prim.Native.Nat.{_<_};
 ghost use Rattle.pauli.specs.Product.{identity, modulo4, sameMasks};
-ghost use Rattle.code_record.specs.Record.{generatorRoom};
+ghost use Rattle.code_record.specs.Record.{rowRoom};
 ghost use Rattle.stabilizer.specs.Canonical.{cleared, reduced, reducesToIdentity, insertByPivot};
 ghost use Rattle.reduced_rows.specs.Rows.{rowsIn, reducedOf};
 ghost use Rattle.reduced_rows.specs.Step.{kindOf, belowPivot, addition};
@@ -16,7 +16,7 @@ ghost use Rattle.reduced_rows.specs.Step.{kindOf, belowPivot, addition};
 pub struct ReducedRows {
     pub n: u32,
     pub count: usize,
-    pub rows: [Pauli; GENERATOR_ROOM],
+    pub rows: [Pauli; ROW_ROOM],
 }
 
 // What a row is to other rows: independent of them, or I with a sign once multiplied by a selection of them.
@@ -34,7 +34,7 @@ impl ReducedRows {
         ReducedRows {
             n,
             count: 0,
-            rows: [Pauli::identity(); GENERATOR_ROOM],
+            rows: [Pauli::identity(); ROW_ROOM],
         }
     }
 
@@ -46,7 +46,7 @@ impl ReducedRows {
         let count = self.count;
         let mut left = p;
         let mut place: usize = 0;
-        while place < GENERATOR_ROOM && place < count {
+        while place < ROW_ROOM && place < count {
             left = cleared(n, self.rows[place], left);
             place += 1;
         }
@@ -69,7 +69,7 @@ impl ReducedRows {
 
     // The rows whose first one comes before q's, with their ones in the column of q's taken away.
     fn below(self, q: Pauli) -> ReducedRows
-        requires { ⌜ self .count < generatorRoom ⌝ }
+        requires { ⌜ self .count < rowRoom ⌝ }
         ensures { λ r. ⌜ r ≡ reducedOf (self .n) (belowPivot (self .n) q (map (cleared (self .n) q) (rowsIn self))) ⌝ }
     {
         let n = self.n;
@@ -91,7 +91,7 @@ impl ReducedRows {
 
     // The rows with their ones in the column of q's first one taken away, and q in its place among them.
     fn insert(self, q: Pauli) -> ReducedRows
-        requires { ⌜ self .count < generatorRoom ⌝ }
+        requires { ⌜ self .count < rowRoom ⌝ }
         ensures { λ r.
             ⌜ r ≡ reducedOf (self .n) (insertByPivot (self .n) q (map (cleared (self .n) q) (rowsIn self))) ⌝ }
     {
@@ -116,7 +116,7 @@ impl ReducedRows {
         ensures { λ r. ⌜ r ≡ addition self p ⌝ }
     {
         let left = self.reduce(p);
-        if self.count < GENERATOR_ROOM && !is_identity(left) {
+        if self.count < ROW_ROOM && !is_identity(left) {
             return self.insert(modulo4(left));
         }
         self

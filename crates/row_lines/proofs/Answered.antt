@@ -8,7 +8,7 @@ use Rattle.pauli.specs.declared.Pauli.{Pauli}
 use Rattle.pauli.specs.Product.{identity}
 use Rattle.refusals.specs.declared.Lines.{Lines}
 use Rattle.refusals.specs.declared.Refusal.{Refusal}
-use Rattle.code_record.specs.Record.{generatorRoom, logicalRoom, filled}
+use Rattle.code_record.specs.Record.{rowRoom, filled}
 use Rattle.sheet.specs.Reader.{Parsed, Reader, got, stop, done, continue, logicalLines}
 use Rattle.lines.specs.Answers.{linesOf, valueOr}
 use Rattle.lines.proofs.Reading.{bytes-used, then-got, then-stop}
@@ -30,11 +30,11 @@ module _ {r : Rows} {answer : RowsAnswer} (none : r ≡ noRows answer) where
   unfolding rowsAnswer linesOf valueOr filled
   rows-none s at a e =
       ap (λ x. (linesAt at (x .answer), x .count, x .rows)) none
-      ∙ ap (λ l. (l, 0, replicate generatorRoom identity)) a
+      ∙ ap (λ l. (l, 0, replicate rowRoom identity)) a
       ∙ ap (rowsAnswer s) (sym e)
 
 pub rows-given : {s : List ℕ} {used count : ℕ} {rows : List Pauli} {p : Parsed (List Pauli)}
-    → used ≤ length s → Held generatorRoom s used count rows p → (Lines.Read used, count, rows) ≡ rowsAnswer s p
+    → used ≤ length s → Held rowRoom s used count rows p → (Lines.Read used, count, rows) ≡ rowsAnswer s p
 unfolding rowsAnswer linesOf valueOr
 rows-given {s} {used} within h =
     (λ i. (Lines.Read (bytes-used s used within i), sym (h .counted) i, h .held i))
@@ -52,7 +52,7 @@ module _ {r : Logicals} {lines : ℕ} (none : r ≡ noLogicals lines) where
   logicals-none s at here e =
       ap (λ x. (linesAt at (x .answer), x .x, x .z)) none
       ∙ ap
-      (λ m. (Lines.Refused (Refusal.Form m), replicate logicalRoom identity, replicate logicalRoom identity))
+      (λ m. (Lines.Refused (Refusal.Form m), replicate rowRoom identity, replicate rowRoom identity))
       here
       ∙ ap (logicalsAnswer s) (sym e)
 
@@ -66,7 +66,7 @@ module _ (k n at : ℕ) (s : List ℕ) where
   x-refused e = then-stop with-z e
 
   module _ {used count : ℕ} {x-rows : List Pauli}
-      (x : Held logicalRoom s used count x-rows (logicalLines k "x=" n at s)) where
+      (x : Held rowRoom s used count x-rows (logicalLines k "x=" n at s)) where
     to-z : pairLines k n at s ≡ with-z (x .read) (drop used s)
     unfolding pairLines
     to-z = then-got with-z (x .gives)
@@ -76,7 +76,7 @@ module _ (k n at : ℕ) (s : List ℕ) where
     z-refused e = to-z ∙ then-stop (λ zs. done (x .read, zs)) e
 
     pub pairs-given : {more z-count : ℕ} {z-rows : List Pauli}
-        → Held logicalRoom (drop used s) more z-count z-rows (logicalLines k "z=" n (at + k) (drop used s))
+        → Held rowRoom (drop used s) more z-count z-rows (logicalLines k "z=" n (at + k) (drop used s))
         → used + more ≤ length s
         → (Lines.Read (used + more), x-rows, z-rows) ≡ logicalsAnswer s (pairLines k n at s)
     unfolding logicalsAnswer linesOf valueOr done

@@ -12,7 +12,7 @@ use Rattle.pauli.specs.declared.Pauli.{Pauli}
 use Rattle.letters.specs.Lists.{bytes}
 use Rattle.pauli.specs.Product.{identity}
 use Rattle.refusals.specs.declared.Refusal.{Refusal}
-use Rattle.code_record.specs.Record.{generatorRoom, logicalRoom, mostGenerators, filled}
+use Rattle.code_record.specs.Record.{rowRoom, mostGenerators, filled}
 use Rattle.sheet.specs.Reader.{got, stop, begins, rowsUpTo, generatorLines, countedGenerators}
 use Rattle.sheet.specs.Reader.{logicalLines, countedLogicals}
 use Rattle.lines.proofs.Reading.{then-got, then-stop}
@@ -27,14 +27,14 @@ take-replicate zero n P h = refl
 take-replicate (suc m) zero P h = absurd (omega arith)
 take-replicate (suc m) (suc n) P h = ap (λ rest. P ∷ rest) (take-replicate m n P (omega arith))
 
-pub shorter-room : (ls : List Pauli) → length ls ≤ logicalRoom
-    → take logicalRoom (filled generatorRoom ls) ≡ filled logicalRoom ls
+pub shorter-room : (ls : List Pauli) → length ls ≤ rowRoom
+    → take rowRoom (filled rowRoom ls) ≡ filled rowRoom ls
 unfolding filled
 shorter-room ls h =
-    let places : logicalRoom ≡ length ls + (logicalRoom - length ls) = omega arith in
-    let fewer : logicalRoom - length ls ≤ generatorRoom - length ls = omega arith in
-    ap (λ m. take m (ls ++ replicate (generatorRoom - length ls) identity)) places
-    ∙ take-append-add ls (replicate (generatorRoom - length ls) identity) (logicalRoom - length ls)
+    let places : rowRoom ≡ length ls + (rowRoom - length ls) = omega arith in
+    let fewer : rowRoom - length ls ≤ rowRoom - length ls = omega arith in
+    ap (λ m. take m (ls ++ replicate (rowRoom - length ls) identity)) places
+    ∙ take-append-add ls (replicate (rowRoom - length ls) identity) (rowRoom - length ls)
     ∙ ap (λ rest. ls ++ rest) (take-replicate _ _ _ fewer)
 
 -- ---- rows of any key
@@ -42,29 +42,29 @@ shorter-room ls h =
 module _ {s : List ℕ} {key : String} {n most : ℕ} {r : Gathered} (h : Gathers s key n most r) where
   -- nothing is left
   ended : (at : ℕ) → rowsLeft key n most at (r .count) (drop (r .used) s) ≡ got [] (drop (r .used) s)
-      → Held generatorRoom s (r .used) (r .count) (r .rows) (rowsUpTo most key n at s)
+      → Held rowRoom s (r .used) (r .count) (r .rows) (rowsUpTo most key n at s)
   ended at e =
       let p = h .progress at in
       record {
         read = p .read;
         held = p .held;
         counted = p .counted;
-        gives = sym (rows-all key n most at s) ∙ progress-end generatorRoom _ s p e;
+        gives = sym (rows-all key n most at s) ∙ progress-end rowRoom _ s p e;
       }
 
   pub rows-all-read : most ≤ r .count → (at : ℕ)
-      → Held generatorRoom s (r .used) (r .count) (r .rows) (rowsUpTo most key n at s)
+      → Held rowRoom s (r .used) (r .count) (r .rows) (rowsUpTo most key n at s)
   rows-all-read all at = ended at (rows-full key n most at (r .count) (drop (r .used) s) all)
 
   pub rows-behind : begins (bytes key) (drop (r .used) s) ≡ false → (at : ℕ)
-      → Held generatorRoom s (r .used) (r .count) (r .rows) (rowsUpTo most key n at s)
+      → Held rowRoom s (r .used) (r .count) (r .rows) (rowsUpTo most key n at s)
   rows-behind other at = ended at (rows-ended key n most at (r .count) (drop (r .used) s) other)
 
   pub rows-off-form : begins (bytes key) (drop (r .used) s) ≡ true → r .count < most → (at : ℕ)
       → rowsUpTo most key n at s ≡ stop (Refusal.Form (at + r .count))
   rows-off-form begun more at =
       sym (rows-all key n most at s)
-      ∙ progress-refused generatorRoom _ s (h .progress at)
+      ∙ progress-refused rowRoom _ s (h .progress at)
       (rows-refused key n most at (r .count) (drop (r .used) s) more begun (h .ended more (at + r .count)))
 
 -- ---- g lines
@@ -98,7 +98,7 @@ module _ {n : ℕ} {s : List ℕ} {r : Gathered} (h : Gathers s "g=" n (mostGene
       (ap (λ i. stop (Refusal.GeneratorCount (at + i))) (m .counted ∙ none))
 
   pub generators-read : begins (bytes "g=") (drop (r .used) s) ≡ false → (r .count ≡ 0 → ⊥)
-      → Held generatorRoom s (r .used) (r .count) (r .rows) (generatorLines n at s)
+      → Held rowRoom s (r .used) (r .count) (r .rows) (generatorLines n at s)
   unfolding countedGenerators
   generators-read other some =
       let m = rows-behind h other at in
@@ -137,7 +137,7 @@ module _ {k : ℕ} {key : String} {n : ℕ} {s : List ℕ} {r : Gathered} (h : G
           ∙ ap (λ i. stop (Refusal.Form (at + i))) (m .counted)
 
   -- the same in an array with room for the logicals
-  pub logicals-gathered : {rows : List Pauli} → rows ≡ take logicalRoom (r .rows) → k ≤ logicalRoom
+  pub logicals-gathered : {rows : List Pauli} → rows ≡ take rowRoom (r .rows) → k ≤ rowRoom
       → GathersLogicals s key n k (record { used = r .used; count = r .count; rows = rows })
   logicals-gathered copied room =
       record {
@@ -149,7 +149,7 @@ module _ {k : ℕ} {key : String} {n : ℕ} {s : List ℕ} {r : Gathered} (h : G
             record {
               read = m .read;
               held =
-                  copied ∙ ap (take logicalRoom) (m .held)
+                  copied ∙ ap (take rowRoom) (m .held)
                   ∙ shorter-room (m .read) (omega (arith, m .counted, h .few));
               counted = m .counted;
               gives = logicals-counted k key n at s (m .gives) (omega (arith, m .counted));

@@ -8,7 +8,7 @@ use Rattle.pauli.specs.declared.Pauli.{Pauli}
 use Rattle.pauli.specs.Product.{identity}
 use Rattle.refusals.specs.declared.Lines.{Lines}
 use Rattle.refusals.specs.declared.Refusal.{Refusal}
-use Rattle.code_record.specs.Record.{generatorRoom, logicalRoom, filled}
+use Rattle.code_record.specs.Record.{rowRoom, filled}
 use Rattle.sheet.specs.Reader.{Parsed, Reader, got, stop, done, continue, _andThen_}
 use Rattle.sheet.specs.Reader.{rowLine, rowsUpTo, logicalLines}
 use Rattle.lines.specs.Answers.{linesOf, valueOr}
@@ -54,7 +54,7 @@ pub record Progress (room : ℕ) (R : ℕ → Reader (List Pauli)) (s : List ℕ
 pub record Gathers (s : List ℕ) (key : String) (n most : ℕ) (r : Gathered) : Type 0 where
   pub few : r .count ≤ most
   pub within : r .used ≤ length s
-  pub progress : (at : ℕ) → Progress generatorRoom (rowsLeft key n most at) s (r .rows) (r .count) (r .used)
+  pub progress : (at : ℕ) → Progress rowRoom (rowsLeft key n most at) s (r .rows) (r .count) (r .used)
   pub ended : r .count < most → (at : ℕ) → rowLine key n at (drop (r .used) s) ≡ stop (Refusal.Form at)
 
 -- The rows that a definition gives are in an array, so many of them, and what is left begins at a place.
@@ -70,7 +70,7 @@ pub record GathersLogicals (s : List ℕ) (key : String) (n k : ℕ) (r : Logica
   pub few : r .count ≤ k
   pub within : r .used ≤ length s
   pub short : r .count < k → (at : ℕ) → logicalLines k key n at s ≡ stop (Refusal.Form (at + r .count))
-  pub all : k ≤ r .count → (at : ℕ) → Held logicalRoom s (r .used) (r .count) (r .rows) (logicalLines k key n at s)
+  pub all : k ≤ r .count → (at : ℕ) → Held rowRoom s (r .used) (r .count) (r .rows) (logicalLines k key n at s)
 
 -- ---- what the public calls answer
 
@@ -89,13 +89,13 @@ linesAt at (RowsAnswer.Miscounted lines) = Lines.Refused (Refusal.GeneratorCount
 -- The answer for g lines, their count and their rows: what the definition gives, whichever line is the first, and no
 -- rows beside a refusal.
 unfoldable pub rowsAnswer : List ℕ → Parsed (List Pauli) → Lines × ℕ × List Pauli
-rowsAnswer s p = (linesOf s p, length (valueOr [] p), filled generatorRoom (valueOr [] p))
+rowsAnswer s p = (linesOf s p, length (valueOr [] p), filled rowRoom (valueOr [] p))
 
 abbrev pub AnswersRows : List ℕ → Rows → (ℕ → Reader (List Pauli)) → Type 0
 AnswersRows s r definition = (at : ℕ) → (linesAt at (r .answer), r .count, r .rows) ≡ rowsAnswer s (definition at s)
 
 abbrev pub noRows : RowsAnswer → Rows
-noRows answer = record { answer = answer; count = 0; rows = replicate generatorRoom identity }
+noRows answer = record { answer = answer; count = 0; rows = replicate rowRoom identity }
 
 -- RULES, "The sheet": k lines of X logicals, then k lines of Z logicals.
 unfoldable pub pairLines : ℕ → ℕ → ℕ → Reader (List Pauli × List Pauli)
@@ -108,7 +108,7 @@ pairLines k n at =
 unfoldable pub logicalsAnswer : List ℕ → Parsed (List Pauli × List Pauli) → Lines × List Pauli × List Pauli
 logicalsAnswer s p =
     let rows = valueOr ([], []) p in
-    (linesOf s p, filled logicalRoom (rows .0), filled logicalRoom (rows .1))
+    (linesOf s p, filled rowRoom (rows .0), filled rowRoom (rows .1))
 
 abbrev pub AnswersLogicals : List ℕ → Logicals → (ℕ → Reader (List Pauli × List Pauli)) → Type 0
 AnswersLogicals s r definition = (at : ℕ) → (linesAt at (r .answer), r .x, r .z) ≡ logicalsAnswer s (definition at s)
@@ -117,6 +117,6 @@ abbrev pub noLogicals : ℕ → Logicals
 noLogicals lines =
     record {
       answer = RowsAnswer.OffForm lines;
-      x = replicate logicalRoom identity;
-      z = replicate logicalRoom identity;
+      x = replicate rowRoom identity;
+      z = replicate rowRoom identity;
     }

@@ -1,15 +1,14 @@
 // The lines of a sheet's rows: the g lines, and the x and z lines. Each reader is lent the bytes that remain. It does
 // not know on which line they begin, so a refusal has the count of the lines before the one that is refused.
-use code_record::GENERATOR_ROOM;
-use code_record::LOGICAL_ROOM;
 use code_record::MOST_QUBITS;
+use code_record::ROW_ROOM;
 use pauli::Pauli;
 use refusals::Family;
 use refusals::Lines;
 ghost use mathlib.Core.Path.{_≡_};
 ghost use Prim.Native.Nat.{ℕ, _*_, _≤_};
 ghost use lib.ListN.{length, take};
-ghost use Rattle.code_record.specs.Record.{generatorRoom, logicalRoom, mostQubits, pairCount};
+ghost use Rattle.code_record.specs.Record.{rowRoom, mostQubits, pairCount};
 ghost use Rattle.refusals.specs.Families.{rowKey};
 ghost use Rattle.sheet.specs.Reader.{rowLine, generatorLines};
 ghost use Rattle.lines.specs.Answers.{withinQubits};
@@ -44,17 +43,17 @@ fn row_line(s: &[u8], family: Family, n: usize) -> RowRead
 struct Gathered {
     used: usize,
     count: usize,
-    rows: [Pauli; GENERATOR_ROOM],
+    rows: [Pauli; ROW_ROOM],
 }
 
 // The lines of a family's rows, until one is off its form or `most` are read.
 fn rows_up_to(s: &[u8], family: Family, most: usize, n: usize) -> Gathered
-    requires { ⌜ most ≤ generatorRoom ⌝ }
+    requires { ⌜ most ≤ rowRoom ⌝ }
     requires { ⌜ n ≤ mostQubits ⌝ }
     ensures { λ r. ⌜ Gathers (now (s .entry)) (rowKey family) n most r ⌝ }
 {
     let one = Pauli::identity();
-    let mut rows = [one; GENERATOR_ROOM];
+    let mut rows = [one; ROW_ROOM];
     let mut count = 0;
     let mut used = 0;
     while count < most {
@@ -81,7 +80,7 @@ pub enum RowsAnswer {
 pub struct Rows {
     pub answer: RowsAnswer,
     pub count: usize,
-    pub rows: [Pauli; GENERATOR_ROOM],
+    pub rows: [Pauli; ROW_ROOM],
 }
 
 impl Rows {
@@ -92,7 +91,7 @@ impl Rows {
         Rows {
             answer,
             count: 0,
-            rows: [one; GENERATOR_ROOM],
+            rows: [one; ROW_ROOM],
         }
     }
 }
@@ -100,7 +99,7 @@ impl Rows {
 // The g lines of n qubits, one at least and n - 1 at most. Rows of more qubits than a sheet may have are off their
 // form.
 pub fn generator_lines(s: &[u8], n: usize) -> Rows
-    ensures { λ r. ⌜ before (r .answer) ≤ generatorRoom ⌝ }
+    ensures { λ r. ⌜ before (r .answer) ≤ rowRoom ⌝ }
     ensures { λ r. ⌜ AnswersRows (now (s .entry)) r (λ at. withinQubits n at (generatorLines n at)) ⌝ }
 {
     if MOST_QUBITS < n {
@@ -128,12 +127,12 @@ pub fn generator_lines(s: &[u8], n: usize) -> Rows
 }
 
 // The rows of an array that a record's array of logicals has room for.
-fn logical_rows(rows: [Pauli; GENERATOR_ROOM]) -> [Pauli; LOGICAL_ROOM]
-    ensures { λ r. ⌜ r ≡ take logicalRoom rows ⌝ }
+fn logical_rows(rows: [Pauli; ROW_ROOM]) -> [Pauli; ROW_ROOM]
+    ensures { λ r. ⌜ r ≡ take rowRoom rows ⌝ }
 {
     let one = Pauli::identity();
-    let mut logicals = [one; LOGICAL_ROOM];
-    for place in 0..LOGICAL_ROOM {
+    let mut logicals = [one; ROW_ROOM];
+    for place in 0..ROW_ROOM {
         let row = rows[place];
         logicals[place] = row;
     }
@@ -144,13 +143,13 @@ fn logical_rows(rows: [Pauli; GENERATOR_ROOM]) -> [Pauli; LOGICAL_ROOM]
 struct LogicalRows {
     used: usize,
     count: usize,
-    rows: [Pauli; LOGICAL_ROOM],
+    rows: [Pauli; ROW_ROOM],
 }
 
 // The lines of the logicals of one kind, until one is off its form or k are read.
 fn logicals_of(s: &[u8], family: Family, n: usize, k: usize) -> LogicalRows
     requires { ⌜ n ≤ mostQubits ⌝ }
-    requires { ⌜ k ≤ logicalRoom ⌝ }
+    requires { ⌜ k ≤ rowRoom ⌝ }
     ensures { λ r. ⌜ GathersLogicals (now (s .entry)) (rowKey family) n k r ⌝ }
 {
     let read = rows_up_to(s, family, k, n);
@@ -165,8 +164,8 @@ fn logicals_of(s: &[u8], family: Family, n: usize, k: usize) -> LogicalRows
 // The answer of the reader of the x and z lines, and their rows; none beside a refusal.
 pub struct Logicals {
     pub answer: RowsAnswer,
-    pub x: [Pauli; LOGICAL_ROOM],
-    pub z: [Pauli; LOGICAL_ROOM],
+    pub x: [Pauli; ROW_ROOM],
+    pub z: [Pauli; ROW_ROOM],
 }
 
 impl Logicals {
@@ -176,8 +175,8 @@ impl Logicals {
         let one = Pauli::identity();
         Logicals {
             answer: RowsAnswer::OffForm(behind),
-            x: [one; LOGICAL_ROOM],
-            z: [one; LOGICAL_ROOM],
+            x: [one; ROW_ROOM],
+            z: [one; ROW_ROOM],
         }
     }
 }
@@ -185,7 +184,7 @@ impl Logicals {
 // The x and z lines of n qubits and r generators, as many of each as there are pairs of logicals. Rows of more qubits
 // than a sheet may have are off their form.
 pub fn logical_lines(s: &[u8], n: usize, r: usize) -> Logicals
-    ensures { λ q. ⌜ before (q .answer) ≤ 2 * logicalRoom ⌝ }
+    ensures { λ q. ⌜ before (q .answer) ≤ 2 * rowRoom ⌝ }
     ensures { λ q. ⌜ AnswersLogicals (now (s .entry)) q (λ at. withinQubits n at (pairLines (pairCount n r) n at)) ⌝ }
 {
     if MOST_QUBITS < n {

@@ -1,14 +1,13 @@
 // The writer of the lines of several rows with one key: the generators of a sheet, its logicals of each kind, the
 // canonical generators.
-use code_record::GENERATOR_ROOM;
-use code_record::LOGICAL_ROOM;
+use code_record::ROW_ROOM;
 use pauli::Pauli;
 use refusals::Refusal;
 use refusals::Written;
 ghost use mathlib.Core.Path.{_≡_};
 ghost use Prim.Native.Nat.{_≤_, min};
 ghost use lib.ListN.{length, take};
-ghost use Rattle.code_record.specs.Record.{generatorRoom, mostQubits, filled};
+ghost use Rattle.code_record.specs.Record.{rowRoom, mostQubits, filled};
 ghost use Rattle.sheet.specs.Text.{laid};
 ghost use Rattle.rows_writer.specs.Rows.{rowsText, writeRows};
 
@@ -20,16 +19,10 @@ fn rows_there(count: usize, places: usize) -> usize
 }
 
 // The lines of the first rows, where there is room for them.
-fn row_lines(
-    out: &mut [u8],
-    key: u8,
-    n: usize,
-    count: usize,
-    rows: [Pauli; GENERATOR_ROOM],
-) -> usize
+fn row_lines(out: &mut [u8], key: u8, n: usize, count: usize, rows: [Pauli; ROW_ROOM]) -> usize
     requires { ⌜ 2 ≤ n ⌝ }
     requires { ⌜ n ≤ mostQubits ⌝ }
-    requires { ⌜ count ≤ generatorRoom ⌝ }
+    requires { ⌜ count ≤ rowRoom ⌝ }
     requires { ⌜ length (rowsText key n (take count rows)) ≤ length (now out) ⌝ }
     ensures { λ r. ⌜ r ≡ length (rowsText key n (take count rows)) ⌝ }
     ensures { λ _. ⌜ now (out .exit) ≡ laid (rowsText key n (take count rows)) (now (out .entry)) ⌝ }
@@ -50,7 +43,7 @@ pub fn write_rows(
     key: u8,
     n: usize,
     count: usize,
-    rows: [Pauli; GENERATOR_ROOM],
+    rows: [Pauli; ROW_ROOM],
     out: &mut [u8],
 ) -> Written
     ensures { λ r. ⌜ r ≡ (writeRows key n (take count rows) (now (out .entry))) .answer ⌝ }
@@ -62,7 +55,7 @@ pub fn write_rows(
     if n > code_record::MOST_QUBITS {
         return Written::Refused(Refusal::RecordLimits);
     }
-    let there = rows_there(count, GENERATOR_ROOM);
+    let there = rows_there(count, ROW_ROOM);
     if out.len() < there * (n + 4) {
         return Written::Refused(Refusal::ShortBuffer);
     }
@@ -70,12 +63,12 @@ pub fn write_rows(
 }
 
 // The logicals of one kind in an array as long as that of the generators, with +I behind them.
-fn widened(rows: [Pauli; LOGICAL_ROOM]) -> [Pauli; GENERATOR_ROOM]
-    ensures { λ r. ⌜ r ≡ filled generatorRoom rows ⌝ }
+fn widened(rows: [Pauli; ROW_ROOM]) -> [Pauli; ROW_ROOM]
+    ensures { λ r. ⌜ r ≡ filled rowRoom rows ⌝ }
 {
     let one = Pauli::identity();
-    let mut wide = [one; GENERATOR_ROOM];
-    for place in 0..LOGICAL_ROOM {
+    let mut wide = [one; ROW_ROOM];
+    for place in 0..ROW_ROOM {
         let row = rows[place];
         wide[place] = row;
     }
@@ -87,13 +80,13 @@ pub fn write_logicals(
     key: u8,
     n: usize,
     count: usize,
-    rows: [Pauli; LOGICAL_ROOM],
+    rows: [Pauli; ROW_ROOM],
     out: &mut [u8],
 ) -> Written
     ensures { λ r. ⌜ r ≡ (writeRows key n (take count rows) (now (out .entry))) .answer ⌝ }
     ensures { λ _. ⌜ now (out .exit) ≡ (writeRows key n (take count rows) (now (out .entry))) .buffer ⌝ }
 {
-    let there = rows_there(count, LOGICAL_ROOM);
+    let there = rows_there(count, ROW_ROOM);
     let wide = widened(rows);
     write_rows(key, n, there, wide, out)
 }

@@ -10,7 +10,7 @@ use lib.ListN.{length, drop, length-append}
 use lib.Seq.{drop-append-seam}
 use Rattle.pauli.specs.declared.Pauli.{Pauli}
 use Rattle.letters.specs.Lists.{anyOf}
-use Rattle.code_record.specs.Record.{generatorRoom, logicalRoom, mostQubits, mostDistance, longestInput}
+use Rattle.code_record.specs.Record.{rowRoom, mostQubits, mostDistance, longestInput}
 use Rattle.code_record.specs.Record.{pairCount, mostGenerators, logicalCount, generators, logicalXs, logicalZs}
 use Rattle.code_record.specs.Record.{firstGeneratorAt, generatorsAt, logicalsAt, claimAt, codeOf, withinLimits}
 use Rattle.code_record.proofs.Filled.{length-filled, take-filled, filled-are-rows, filled-modulo4}
@@ -43,23 +43,23 @@ module _
   unfolding codeOf withinLimits phasesModulo4 logicalCount pairCount mostGenerators generatorsAt logicalsAt claimAt
   sheet-lawful = record {
     sized = record {
-      roomG = length-filled generatorRoom gs (omega arith);
-      roomX = length-filled logicalRoom xs (omega arith);
-      roomZ = length-filled logicalRoom zs (omega arith);
+      roomG = length-filled rowRoom gs (omega arith);
+      roomX = length-filled rowRoom xs (omega arith);
+      roomZ = length-filled rowRoom zs (omega arith);
     };
     limits = rw (
       bounds-between 2 mostQubits n (hn .lawful .0) (hn .lawful .1),
       bounds-between 1 (mostGenerators n) (length gs) (hg .lawful .least) (hg .lawful .most),
       bounds-between 1 mostDistance d (hd .lawful .0) (hd .lawful .1),
-      filled-are-rows generatorRoom gs _ refl n (hg .lawful .each),
-      filled-are-rows logicalRoom xs _ (row-count (hx .lawful)) n (hx .lawful .each),
-      filled-are-rows logicalRoom zs _ (row-count (hz .lawful)) n (hz .lawful .each),
+      filled-are-rows rowRoom gs _ refl n (hg .lawful .each),
+      filled-are-rows rowRoom xs _ (row-count (hx .lawful)) n (hx .lawful .each),
+      filled-are-rows rowRoom zs _ (row-count (hz .lawful)) n (hz .lawful .each),
       hw .lawful .claim,
     );
     phases = cc (
-      filled-modulo4 generatorRoom gs (hg .lawful .phases),
-      filled-modulo4 logicalRoom xs (hx .lawful .phases),
-      filled-modulo4 logicalRoom zs (hz .lawful .phases),
+      filled-modulo4 rowRoom gs (hg .lawful .phases),
+      filled-modulo4 rowRoom xs (hx .lawful .phases),
+      filled-modulo4 rowRoom zs (hz .lawful .phases),
     );
     claim = refl;
   }
@@ -74,9 +74,9 @@ module _
         hx .bytes-read,
         hz .bytes-read,
         hw .bytes-read,
-        take-filled generatorRoom gs _ refl,
-        take-filled logicalRoom xs _ (row-count (hx .lawful)),
-        take-filled logicalRoom zs _ (row-count (hz .lawful)),
+        take-filled rowRoom gs _ refl,
+        take-filled rowRoom xs _ (row-count (hx .lawful)),
+        take-filled rowRoom zs _ (row-count (hz .lawful)),
       ) (simp append-assoc)
 
 -- ---- the sheet

@@ -15,7 +15,7 @@ use Rattle.letters.specs.Lists.{allOf, bytes}
 use Rattle.pauli.specs.Product.{modulo4}
 use Rattle.code_record.specs.declared.Code.{Code}
 use Rattle.refusals.specs.declared.Refusal.{Refusal}
-use Rattle.code_record.specs.Record.{generatorRoom, logicalRoom, mostQubits, mostDistance, longestInput}
+use Rattle.code_record.specs.Record.{rowRoom, mostQubits, mostDistance, longestInput}
 use Rattle.code_record.specs.Record.{mostGenerators, pairCount, logicalCount, generatorsAt, logicalsAt, claimAt}
 use Rattle.code_record.specs.Record.{firstGeneratorAt, codeOf, generators, logicalXs, logicalZs, isRow, isClaim, Sized}
 use Rattle.code_record.proofs.Filled.{filled-returns}
@@ -145,9 +145,9 @@ module _ (c : Code) (sized : Sized c) (within : Limits c) where
   record-returns =
       rw (
         rows-read,
-        filled-returns generatorRoom (c .r) (c .g) (sized .roomG) (within .generatorRows .unused),
-        filled-returns logicalRoom (logicalCount c) (c .x) (sized .roomX) (within .xRows .unused),
-        filled-returns logicalRoom (logicalCount c) (c .z) (sized .roomZ) (within .zRows .unused),
+        filled-returns rowRoom (c .r) (c .g) (sized .roomG) (within .generatorRows .unused),
+        filled-returns rowRoom (logicalCount c) (c .x) (sized .roomX) (within .xRows .unused),
+        filled-returns rowRoom (logicalCount c) (c .z) (sized .roomZ) (within .zRows .unused),
       )
 
   lines-after-return : (at : ℕ) (rest : List ℕ)

@@ -3,8 +3,7 @@ use crate::row::above;
 use crate::row::turned;
 use crate::row::with_bits;
 use code_record::Code;
-use code_record::GENERATOR_ROOM;
-use code_record::LOGICAL_ROOM;
+use code_record::ROW_ROOM;
 use code_record::pair_count;
 use pauli::Pauli;
 use refusals::Family;
@@ -48,8 +47,8 @@ fn changed_generator(code: Code, change: usize) -> Code {
         18 => with_row(code, g, 0, turned(first, 2)),
         19 => with_row(code, g, 0, turned(first, 0xFFFF_FFFC)),
         20 => with_row(code, g, code.r, Pauli { p: 0, a: 1, b: 0 }),
-        21 => with_row(code, g, GENERATOR_ROOM - 1, Pauli { p: 8, a: 0, b: 0 }),
-        22 => with_row(code, g, GENERATOR_ROOM - 1, Pauli { p: 0, a: 0, b: 1 }),
+        21 => with_row(code, g, ROW_ROOM - 1, Pauli { p: 8, a: 0, b: 0 }),
+        22 => with_row(code, g, ROW_ROOM - 1, Pauli { p: 0, a: 0, b: 1 }),
         _ => changed_logical(code, change),
     }
 }
@@ -67,26 +66,22 @@ fn changed_logical(code: Code, change: usize) -> Code {
         26 => with_row(code, x, pairs, Pauli { p: 0, a: 0, b: 1 }),
         27 => with_row(code, z, 0, with_bits(first_z, 0, 0x8000_0000)),
         28 => with_row(code, z, 0, turned(first_z, 3)),
-        29 => with_row(code, z, LOGICAL_ROOM - 1, Pauli { p: 2, a: 0, b: 0 }),
+        29 => with_row(code, z, ROW_ROOM - 1, Pauli { p: 2, a: 0, b: 0 }),
         _ => code,
     }
 }
 
 fn with_row(code: Code, family: Family, place: usize, row: Pauli) -> Code {
     let mut c = code;
-    match family {
-        Family::Generator => {
-            if place < GENERATOR_ROOM {
+    if place < ROW_ROOM {
+        match family {
+            Family::Generator => {
                 c.g[place] = row;
             }
-        }
-        Family::LogicalX => {
-            if place < LOGICAL_ROOM {
+            Family::LogicalX => {
                 c.x[place] = row;
             }
-        }
-        Family::LogicalZ => {
-            if place < LOGICAL_ROOM {
+            Family::LogicalZ => {
                 c.z[place] = row;
             }
         }
@@ -103,7 +98,7 @@ fn with_claim(code: Code, w: Pauli) -> Code {
 // Every phase with 4 more, which is the same phase.
 fn with_phases(code: Code) -> Code {
     let mut c = with_claim(code, turned(code.w, 4));
-    for place in 0..GENERATOR_ROOM {
+    for place in 0..ROW_ROOM {
         c = with_phases_at(c, place);
     }
     c

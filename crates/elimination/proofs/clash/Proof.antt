@@ -11,7 +11,7 @@ use Rattle.code_record.specs.declared.Code.{Code}
 use Rattle.refusals.specs.declared.Family.{Family}
 use Rattle.refusals.specs.declared.Refusal.{Refusal}
 use Rattle.refusals.specs.Refusals.{refuseIf, _then_}
-use Rattle.code_record.specs.Record.{generatorRoom, generators, generatorsAt}
+use Rattle.code_record.specs.Record.{rowRoom, generators, generatorsAt}
 use Rattle.code_record.proofs.Limits.{limits}
 use Rattle.code_record.proofs.ArrayLengths.{sized-of}
 use Rattle.stabilizer.specs.Checks.{firstFault, clash}
@@ -36,7 +36,7 @@ module _ (c : tie.After-generators-at Inv-loop μ-loop) where
   abbrev code : Code
   code = c .before .args .code
 
-  count-few : (code .r ≤ length (code .g)) × (code .r < generatorRoom)
+  count-few : (code .r ≤ length (code .g)) × (code .r < rowRoom)
   count-few =
       let l = limits code (c .before .pre) in
       omega (arith, l .qubits, l .generatorCount, sized-of code (c .before .good .0) .roomG)

@@ -8,7 +8,7 @@ use native.Mathlib.Omega.{arith}
 use lib.ListN.{length, take}
 use Rattle.code_record.specs.declared.Code.{Code}
 use Rattle.refusals.specs.declared.Refusal.{Refusal}
-use Rattle.code_record.specs.Record.{generatorRoom, mostQubits, isRow, generators, generatorsAt}
+use Rattle.code_record.specs.Record.{rowRoom, mostQubits, isRow, generators, generatorsAt}
 use Rattle.code_record.proofs.Limits.{limits}
 use Rattle.code_record.proofs.ArrayLengths.{sized-of}
 use Rattle.stabilizer.specs.Canonical.{canonicalGenerators}
@@ -50,7 +50,7 @@ module _ (c : tie.After-generators-at Inv-loop μ-loop) where
   unfolding generatorsAt
   line-small = omega (arith, c .generators-at .ensures)
 
-  room : (code .r ≤ length (code .g)) × (code .r < generatorRoom) × (code .n ≤ mostQubits)
+  room : (code .r ≤ length (code .g)) × (code .r < rowRoom) × (code .n ≤ mostQubits)
   room =
       let l = limits code (c .before .pre .0) in
       omega (arith, l .qubits, l .generatorCount, sized-of code (c .before .good .0) .roomG)

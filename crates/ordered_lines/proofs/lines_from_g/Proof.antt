@@ -7,7 +7,7 @@ use native.Mathlib.Omega.{arith}
 use borrow.Author.Needs.{needs}
 use lib.ListN.{length, drop}
 use Rattle.pauli.specs.declared.Pauli.{Pauli}
-use Rattle.code_record.specs.Record.{mostGenerators, generatorRoom, firstGeneratorAt}
+use Rattle.code_record.specs.Record.{mostGenerators, rowRoom, firstGeneratorAt}
 use Rattle.sheet.specs.Reader.{Reader, SheetRead, generatorLines, linesAfter, answered}
 use Rattle.sheet.proofs.Consumed.{generator-lines-outcome}
 use Rattle.sheet.proofs.Outcome.{what-was-got}
@@ -70,7 +70,7 @@ g-read : (c : tie.After-answer)
     (generatorLines (n (found c)) firstGeneratorAt (left (found c)))
 g-read c = reached-more (start (found c) .pre .0) (g-answer (c .before .before)) (c .answer .given .1)
 
-few : (c : tie.After-answer) → rows (found c) .count ≤ generatorRoom
+few : (c : tie.After-answer) → rows (found c) .count ≤ rowRoom
 unfolding mostGenerators
 few c =
     let line = found c in

@@ -8,7 +8,7 @@ use lib.ListN.{drop}
 use Rattle.letters.specs.Lists.{bytes}
 use Rattle.refusals.specs.declared.Lines.{Lines}
 use Rattle.refusals.specs.declared.Refusal.{Refusal}
-use Rattle.code_record.specs.Record.{generatorRoom, mostGenerators}
+use Rattle.code_record.specs.Record.{rowRoom, mostGenerators}
 use Rattle.sheet.specs.Reader.{begins, generatorLines}
 use Rattle.sheet.proofs.Parts.{tail-of}
 use Rattle.lines.specs.Answers.{withinQubits}
@@ -38,7 +38,7 @@ most c = c .before .most-generators .ensures
 gathers : (c : tie.After-rows-up-to) → Gathers (s c) "g=" (n c) (mostGenerators (n c)) (read c)
 gathers c = subst (λ m. Gathers (s c) "g=" (n c) m (read c)) (most c) (c .rows-up-to .ensures)
 
-few : (c : tie.After-rows-up-to) → read c .count ≤ generatorRoom
+few : (c : tie.After-rows-up-to) → read c .count ≤ rowRoom
 unfolding mostGenerators
 few c = omega (arith, gathers c .few, c .before .before .if1 .left)
 

@@ -6,7 +6,7 @@ use native.Mathlib.Nat.{lt-of-le-of-lt}
 use native.Mathlib.Omega.{arith}
 use borrow.Author.Needs.{needs}
 use lib.ListN.{length, drop, length-drop}
-use Rattle.code_record.specs.Record.{logicalRoom, pairCount}
+use Rattle.code_record.specs.Record.{rowRoom, pairCount}
 use Rattle.sheet.proofs.Parts.{tail-of}
 use Rattle.lines.specs.Answers.{withinQubits}
 use Rattle.lines.proofs.Lines.{few-qubits, many-qubits}
@@ -28,7 +28,7 @@ n c = start c .args .n
 abbrev k : tie.After-logicals-of → ℕ
 k c = c .before .pair-count .result
 
-few : (c : tie.After-pair-count) → c .pair-count .result ≤ logicalRoom
+few : (c : tie.After-pair-count) → c .pair-count .result ≤ rowRoom
 unfolding pairCount
 few c = omega (arith, c .pair-count .ensures, c .before .if1 .left)
 

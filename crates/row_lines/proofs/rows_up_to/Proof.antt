@@ -5,7 +5,7 @@ use Prim.Native.Nat.{ℕ, _+_, _-_, _≤_}
 use native.Mathlib.Omega.{arith}
 use borrow.Author.Needs.{needs}
 use lib.ListN.{length, drop, replicate, length-drop}
-use Rattle.code_record.specs.Record.{generatorRoom}
+use Rattle.code_record.specs.Record.{rowRoom}
 use Rattle.refusals.specs.Families.{rowKey}
 use Rattle.sheet.specs.Reader.{rowLine}
 use Rattle.sheet.proofs.Parts.{tail-of}
@@ -18,7 +18,7 @@ use Rattle.row_lines.proofs.rows_up_to.Tie as tie
 abbrev Inv-loop : tie.InvT-loop
 Inv-loop s family most n rows₀ count₀ used₀ rows count used =
     (count ≤ most) × (used ≤ length s)
-    × ((at : ℕ) → Progress generatorRoom (rowsLeft (rowKey family) n most at) s rows count used)
+    × ((at : ℕ) → Progress rowRoom (rowsLeft (rowKey family) n most at) s rows count used)
 
 abbrev μ-loop : tie.MeasureT-loop
 μ-loop s family most n rows₀ count₀ used₀ rows count used = most - count
@@ -72,10 +72,10 @@ loop-holds c =
       search needs,
       λ at. subst
           (λ one.
-          Progress generatorRoom (rowsLeft (rowKey (first .args .family)) (first .args .n) (first .args .most) at)
-          (first .args .s .now) (replicate generatorRoom one) 0 0)
+          Progress rowRoom (rowsLeft (rowKey (first .args .family)) (first .args .n) (first .args .most) at)
+          (first .args .s .now) (replicate rowRoom one) 0 0)
           (sym (c .identity .ensures))
-          (progress-start generatorRoom _ (first .args .s .now)),
+          (progress-start rowRoom _ (first .args .s .now)),
     )
 
 returns : tie.Need-returns Inv-loop μ-loop
@@ -100,7 +100,7 @@ loop-again c =
     let behind = line-at line in (
       search needs,
       omega (arith, row-within (c .before), length-drop (behind .loop .used) (s behind)),
-      λ at. progress-row generatorRoom _ (s behind) (behind .loop .inv .2 at) _ _ (search needs)
+      λ at. progress-row rowRoom _ (s behind) (behind .loop .inv .2 at) _ _ (search needs)
           (row-within (c .before))
           (rows-row _ _ _ at _ _ (line .before .before .loop-test .taken)
           (line-gives line (at + behind .loop .count)

@@ -7,25 +7,25 @@ use borrow.Author.Needs.{needs}
 use lib.ListN.{length, take, set, getD, replicate}
 use lib.Seq.{take-all, take-suc, length-take-le}
 use Rattle.pauli.specs.Product.{identity}
-use Rattle.code_record.specs.Record.{generatorRoom, logicalRoom, filled}
+use Rattle.code_record.specs.Record.{rowRoom, filled}
 use Rattle.code_record.proofs.Filled.{filled-more}
 use Rattle.rows_writer.proofs.widened.Statement.{statement}
 use Rattle.rows_writer.proofs.widened.Tie as tie
 
 abbrev Inv-loop : tie.InvT-loop
 Inv-loop rows wide₀ place₀ wide place =
-    (place ≤ logicalRoom) × (wide ≡ filled generatorRoom (take place rows))
+    (place ≤ rowRoom) × (wide ≡ filled rowRoom (take place rows))
 
 abbrev μ-loop : tie.MeasureT-loop
-μ-loop rows wide₀ place₀ wide place = logicalRoom - place
+μ-loop rows wide₀ place₀ wide place = rowRoom - place
 
 -- The array that is copied has its room.
-room : (c : tie.Start Inv-loop μ-loop) → length (c .args .t1) ≡ logicalRoom
+room : (c : tie.Start Inv-loop μ-loop) → length (c .args .t1) ≡ rowRoom
 room c = c .good .0 .1 .0 .1
 
 loop-holds : tie.Need-loop-holds Inv-loop μ-loop
 unfolding filled
-loop-holds c = (search needs, ap (replicate generatorRoom) (c .identity .ensures))
+loop-holds c = (search needs, ap (replicate rowRoom) (c .identity .ensures))
 
 array-copy-out-row : tie.Need-array-copy-out-row Inv-loop μ-loop
 array-copy-out-row c = omega (arith, c .loop-test .taken)
@@ -39,10 +39,10 @@ loop-again c =
     let count = length-take-le place rows (omega arith) in (
       search needs,
       ap (λ all. set all place (getD rows place identity)) (at .loop .inv .1)
-          ∙ ap (λ m. set (filled generatorRoom (take place rows)) m (getD rows place identity)) (sym count)
-          ∙ filled-more generatorRoom (take place rows) (getD rows place identity)
+          ∙ ap (λ m. set (filled rowRoom (take place rows)) m (getD rows place identity)) (sym count)
+          ∙ filled-more rowRoom (take place rows) (getD rows place identity)
           (omega (arith, count, c .before .loop-test .taken))
-          ∙ ap (filled generatorRoom) (sym (ap (λ m. take m rows) (add-one place) ∙ take-suc rows place identity here)),
+          ∙ ap (filled rowRoom) (sym (ap (λ m. take m rows) (add-one place) ∙ take-suc rows place identity here)),
     )
 
 returns : tie.Need-returns Inv-loop μ-loop
@@ -50,7 +50,7 @@ returns c =
     let at = c .before in
     let rows = at .before .before .args .t1 in
     let all = take-all (at .loop .place) rows (omega (arith, room (at .before .before), c .loop-test .left)) in
-    at .loop .inv .1 ∙ ap (filled generatorRoom) all
+    at .loop .inv .1 ∙ ap (filled rowRoom) all
 
 pub widened-spec : {M : Type 1} → statement M
 widened-spec =

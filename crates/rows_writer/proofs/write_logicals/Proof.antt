@@ -7,7 +7,7 @@ use lib.ListN.{length, take}
 use lib.Seq.{take-append-le}
 use borrow.Author.Needs.{needs}
 use Rattle.pauli.specs.declared.Pauli.{Pauli}
-use Rattle.code_record.specs.Record.{logicalRoom, filled}
+use Rattle.code_record.specs.Record.{rowRoom, filled}
 use Rattle.rows_writer.specs.Rows.{writeRows}
 use Rattle.rows_writer.proofs.Rows.{take-there}
 use Rattle.rows_writer.proofs.write_logicals.Statement.{statement}
@@ -23,14 +23,14 @@ module _ (c : tie.After-widened) where
   abbrev rows : List Pauli
   rows = start .args .rows
 
-  sized : length rows ≡ logicalRoom
+  sized : length rows ≡ rowRoom
   sized = start .good .1 .1 .1 .0 .1 .0 .1
 
   same-rows : take (c .before .rows-there .result) (c .widened .result) ≡ take count rows
   unfolding filled
   same-rows =
       ap₂ (λ (k : ℕ) (all : List Pauli). take k all) (c .before .rows-there .ensures) (c .widened .ensures)
-      ∙ take-append-le (min count logicalRoom) rows _ (omega (arith, sized)) ∙ take-there rows _ sized count
+      ∙ take-append-le (min count rowRoom) rows _ (omega (arith, sized)) ∙ take-there rows _ sized count
 
   same-answer : (buffer : List ℕ)
       → writeRows (start .args .key) (start .args .n) (take (c .before .rows-there .result) (c .widened .result)) buffer

@@ -7,7 +7,7 @@ use native.Mathlib.Nat.{mul-le-mul}
 use native.Mathlib.Omega.{arith}
 use lib.ListN.{length, take}
 use Rattle.pauli.specs.declared.Pauli.{Pauli}
-use Rattle.code_record.specs.Record.{mostQubits, generatorRoom}
+use Rattle.code_record.specs.Record.{mostQubits, rowRoom}
 use Rattle.code_record.proofs.Limits.{outside-between}
 use Rattle.sheet.specs.Text.{laid}
 use Rattle.row_writer.proofs.Lines.{outside-limits, too-short, has-room}
@@ -27,7 +27,7 @@ module _ (c : tie.Start) where
   abbrev buffer : List ℕ
   buffer = c .args .out .now
 
-  sized : length rows ≡ generatorRoom
+  sized : length rows ≡ rowRoom
   sized = c .good .1 .1 .1 .0 .1 .0 .1
 
 -- ---- within limits
@@ -82,7 +82,7 @@ returns-2 c =
 
 mul-if3 : tie.Need-mul-if3
 mul-if3 c =
-    let rows : there c ≤ generatorRoom = omega (arith, c .rows-there .ensures) in
+    let rows : there c ≤ rowRoom = omega (arith, c .rows-there .ensures) in
     let width : start c .args .n + 4 ≤ 28 = omega (arith, high c) in
     let product = mul-le-mul rows width in
     record { fits = omega (arith, product) }
@@ -97,7 +97,7 @@ returns-3 c =
 row-lines-requires : tie.Need-row-lines-requires
 row-lines-requires c κs =
     let at = c .before .before in
-    let few : there at ≤ generatorRoom = omega (arith, at .rows-there .ensures) in
+    let few : there at ≤ rowRoom = omega (arith, at .rows-there .ensures) in
     (low at, (high at, (few, omega (arith, room (c .before), ap length (shown-is at)))))
 
 returns-4 : tie.Need-returns-4

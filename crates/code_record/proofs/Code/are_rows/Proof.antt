@@ -9,7 +9,7 @@ use native.Mathlib.Omega.{arith}
 use lib.ListN.{length, drop}
 use Rattle.pauli.specs.declared.Pauli.{Pauli}
 use Rattle.pauli.specs.Product.{identity, samePauli}
-use Rattle.code_record.specs.Record.{rowsOf, isRow, areRows}
+use Rattle.code_record.specs.Record.{rowRoom, rowsOf, isRow, areRows}
 use Rattle.code_record.proofs.ArrayLengths.{sized-of}
 use Rattle.code_record.proofs.RowLimits.{passed, failed, used-at, unused-at, areRows-behind-end, room-of}
 use borrow.Author.Needs.{needs}
@@ -17,23 +17,23 @@ use Rattle.code_record.proofs.Code.are_rows.Statement.{statement}
 use Rattle.code_record.proofs.Code.are_rows.Tie as tie
 
 abbrev Inv-loop : tie.InvT-loop
-Inv-loop self family count n room place₀ place =
-    (length (rowsOf family self) ≡ room) × (place ≤ room)
+Inv-loop self family count n place₀ place =
+    (length (rowsOf family self) ≡ rowRoom) × (place ≤ rowRoom)
     × (areRows n count (rowsOf family self) ≡ areRows n (count - place) (drop place (rowsOf family self)))
 
 abbrev μ-loop : tie.MeasureT-loop
-μ-loop self family count n room place₀ place = room - place
+μ-loop self family count n place₀ place = rowRoom - place
 
 -- ---- a turn: the row at its place is tested, and the rows behind it are left
 
 abbrev n : tie.After-row Inv-loop μ-loop → ℕ
-n c = c .before .before .before .before .args .self .n
+n c = c .before .before .before .args .self .n
 
 abbrev count : tie.After-row Inv-loop μ-loop → ℕ
-count c = c .before .before .before .before .args .count
+count c = c .before .before .before .args .count
 
 abbrev rows : tie.After-row Inv-loop μ-loop → List Pauli
-rows c = rowsOf (c .before .before .before .before .args .family) (c .before .before .before .before .args .self)
+rows c = rowsOf (c .before .before .before .args .family) (c .before .before .before .args .self)
 
 abbrev place : tie.After-row Inv-loop μ-loop → ℕ
 place c = c .before .before .loop .place
@@ -56,9 +56,9 @@ left-unused c many test =
 
 loop-holds : tie.Need-loop-holds Inv-loop μ-loop
 loop-holds c =
-    let a = c .before .args in
+    let a = c .args in
     let all : a .count ≡ a .count - 0 = omega arith in (
-      room-of (a .self) (sized-of (a .self) (c .before .good .0)) (a .family) ∙ sym (c .room-of .ensures),
+      room-of (a .self) (sized-of (a .self) (c .good .0)) (a .family),
       omega arith,
       ap (λ m. areRows (a .self .n) m (rowsOf (a .family) (a .self))) all,
     )
@@ -90,7 +90,6 @@ are-rows-spec =
     (tie.spec
     Inv-loop
     μ-loop
-    (λ c κs. search needs)
     loop-holds
     (λ c κs. search needs)
     (λ c κs. search needs)

@@ -1,7 +1,7 @@
 -- The empty record: an array of one value is that value, written out as often as the array has places.
 use mathlib.Core.Path.{ap}
 use lib.ListN.{replicate}
-use Rattle.code_record.specs.Record.{generatorRoom, logicalRoom, emptyCode}
+use Rattle.code_record.specs.Record.{rowRoom, emptyCode}
 use borrow.Author.Needs.{needs}
 use Rattle.code_record.proofs.Code.empty.Statement.{statement}
 use Rattle.code_record.proofs.Code.empty.Tie as tie
@@ -13,9 +13,9 @@ returns c =
       n = 0;
       r = 0;
       d = 0;
-      g = replicate generatorRoom one;
-      x = replicate logicalRoom one;
-      z = replicate logicalRoom one;
+      g = replicate rowRoom one;
+      x = replicate rowRoom one;
+      z = replicate rowRoom one;
       w = one;
     })
     (c .identity .ensures)

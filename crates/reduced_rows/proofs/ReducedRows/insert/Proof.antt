@@ -6,7 +6,7 @@ use Prim.Native.Nat.{ℕ, _+_, _-_, _<_, _≤_}
 use native.Mathlib.Omega.{arith}
 use lib.ListN.{length, drop, length-map}
 use Rattle.pauli.specs.declared.Pauli.{Pauli}
-use Rattle.code_record.specs.Record.{generatorRoom}
+use Rattle.code_record.specs.Record.{rowRoom}
 use Rattle.stabilizer.specs.Canonical.{cleared, insertByPivot}
 use Rattle.reduced_rows.specs.Rows.{rowsIn, reducedOf}
 use Rattle.reduced_rows.specs.Step.{belowPivot}
@@ -85,14 +85,14 @@ here c =
 -- ---- the needs
 
 mul-q : tie.Need-mul-q Inv-loop μ-loop
-mul-q c = let few : c .below .result .count < generatorRoom = omega (arith, count-few c, c .before .pre) in
+mul-q c = let few : c .below .result .count < rowRoom = omega (arith, count-few c, c .before .pre) in
     search needs
 
 element-set-from-q : tie.Need-element-set-from-q Inv-loop μ-loop
 element-set-from-q c = omega (arith, count-few c, c .before .pre)
 
 add-longer : tie.Need-add-longer Inv-loop μ-loop
-add-longer c = let few : c .below .result .count < generatorRoom = omega (arith, count-few c, c .before .pre) in
+add-longer c = let few : c .below .result .count < rowRoom = omega (arith, count-few c, c .before .pre) in
     search needs
 
 loop-holds : tie.Need-loop-holds Inv-loop μ-loop

@@ -4,7 +4,7 @@ use mathlib.Core.Path.{_≡_, refl, ap, sym, _∙_}
 use Prim.Native.Nat.{_+_, _-_, _<_}
 use native.Mathlib.Omega.{arith}
 use lib.ListN.{length, drop}
-use Rattle.code_record.specs.Record.{generatorRoom}
+use Rattle.code_record.specs.Record.{rowRoom}
 use Rattle.stabilizer.specs.Canonical.{reduced}
 use Rattle.reduced_rows.specs.Rows.{rowsIn}
 use Rattle.reduced_rows.proofs.Rows.{reduced-at, reduced-end}
@@ -21,7 +21,7 @@ Inv-loop self n count left₀ place₀ left place =
 abbrev μ-loop : tie.MeasureT-loop
 μ-loop self n count left₀ place₀ left place = count - place
 
-room : (c : tie.At-loop Inv-loop μ-loop) → length (c .before .args .t1 .rows) ≡ generatorRoom
+room : (c : tie.At-loop Inv-loop μ-loop) → length (c .before .args .t1 .rows) ≡ rowRoom
 room c = room-of (c .before .args .t1) (c .before .good .0)
 
 few : (c : tie.Then1 Inv-loop μ-loop) → c .before .before .loop .place < c .before .before .before .args .t1 .count

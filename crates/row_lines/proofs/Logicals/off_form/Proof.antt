@@ -2,7 +2,7 @@
 use mathlib.Core.Path.{ap}
 use lib.ListN.{replicate}
 use borrow.Author.Needs.{needs}
-use Rattle.code_record.specs.Record.{logicalRoom}
+use Rattle.code_record.specs.Record.{rowRoom}
 use Rattle.row_lines.specs.declared.RowsAnswer.{RowsAnswer}
 use Rattle.row_lines.proofs.Logicals.off_form.Statement.{statement}
 use Rattle.row_lines.proofs.Logicals.off_form.Tie as tie
@@ -13,8 +13,8 @@ returns c =
     (λ one.
     record {
       answer = RowsAnswer.OffForm (c .before .args .behind);
-      x = replicate logicalRoom one;
-      z = replicate logicalRoom one;
+      x = replicate rowRoom one;
+      z = replicate rowRoom one;
     })
     (c .identity .ensures)
 
