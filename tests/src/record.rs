@@ -19,8 +19,8 @@ pub struct Record {
     pub r: usize,
     pub d: usize,
     pub g: [Pauli; 32],
-    pub x: [Pauli; 24],
-    pub z: [Pauli; 24],
+    pub x: [Pauli; 32],
+    pub z: [Pauli; 32],
     pub w: Pauli,
 }
 
@@ -39,8 +39,8 @@ impl Record {
         r: 0,
         d: 0,
         g: [PLUS_I; 32],
-        x: [PLUS_I; 24],
-        z: [PLUS_I; 24],
+        x: [PLUS_I; 32],
+        z: [PLUS_I; 32],
         w: PLUS_I,
     };
 

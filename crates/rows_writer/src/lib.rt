@@ -7,15 +7,15 @@ use refusals::Written;
 ghost use mathlib.Core.Path.{_≡_};
 ghost use Prim.Native.Nat.{_≤_, min};
 ghost use lib.ListN.{length, take};
-ghost use Rattle.code_record.specs.Record.{rowRoom, mostQubits, filled};
+ghost use Rattle.code_record.specs.Record.{rowRoom, mostQubits};
 ghost use Rattle.sheet.specs.Text.{laid};
 ghost use Rattle.rows_writer.specs.Rows.{rowsText, writeRows};
 
-// How many rows there are in an array with so many places, where `count` are asked for.
-fn rows_there(count: usize, places: usize) -> usize
-    ensures { λ r. ⌜ r ≡ min count places ⌝ }
+// How many rows there are in an array, where `count` are asked for.
+fn rows_there(count: usize) -> usize
+    ensures { λ r. ⌜ r ≡ min count rowRoom ⌝ }
 {
-    if count < places { count } else { places }
+    if count < ROW_ROOM { count } else { ROW_ROOM }
 }
 
 // The lines of the first rows, where there is room for them.
@@ -55,38 +55,9 @@ pub fn write_rows(
     if n > code_record::MOST_QUBITS {
         return Written::Refused(Refusal::RecordLimits);
     }
-    let there = rows_there(count, ROW_ROOM);
+    let there = rows_there(count);
     if out.len() < there * (n + 4) {
         return Written::Refused(Refusal::ShortBuffer);
     }
     Written::Count(row_lines(out, key, n, there, rows))
-}
-
-// The logicals of one kind in an array as long as that of the generators, with +I behind them.
-fn widened(rows: [Pauli; ROW_ROOM]) -> [Pauli; ROW_ROOM]
-    ensures { λ r. ⌜ r ≡ filled rowRoom rows ⌝ }
-{
-    let one = Pauli::identity();
-    let mut wide = [one; ROW_ROOM];
-    for place in 0..ROW_ROOM {
-        let row = rows[place];
-        wide[place] = row;
-    }
-    wide
-}
-
-// The same of an array as long as that of the logicals of one kind.
-pub fn write_logicals(
-    key: u8,
-    n: usize,
-    count: usize,
-    rows: [Pauli; ROW_ROOM],
-    out: &mut [u8],
-) -> Written
-    ensures { λ r. ⌜ r ≡ (writeRows key n (take count rows) (now (out .entry))) .answer ⌝ }
-    ensures { λ _. ⌜ now (out .exit) ≡ (writeRows key n (take count rows) (now (out .entry))) .buffer ⌝ }
-{
-    let there = rows_there(count, ROW_ROOM);
-    let wide = widened(rows);
-    write_rows(key, n, there, wide, out)
 }

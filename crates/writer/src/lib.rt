@@ -35,8 +35,8 @@ fn row_lines(out: &mut [u8], code: Code) -> usize
     let x = code.x;
     let z = code.z;
     let mut end = rows_writer::write_rows(b'g', code.n, code.r, g, out).count();
-    end += rows_writer::write_logicals(b'x', code.n, k, x, &mut out[end..]).count();
-    end += rows_writer::write_logicals(b'z', code.n, k, z, &mut out[end..]).count();
+    end += rows_writer::write_rows(b'x', code.n, k, x, &mut out[end..]).count();
+    end += rows_writer::write_rows(b'z', code.n, k, z, &mut out[end..]).count();
     end
 }
 

@@ -92,14 +92,14 @@ module _ (c : tie.After-count2) where
   sX = start atG
 
   abbrev outX : List ℕ
-  outX = back (endG atG) (outG atG) (c .before .before .before .write-logicals .last .1 .1 .1 .1 .0)
+  outX = back (endG atG) (outG atG) (c .before .before .before .write-rows2 .last .1 .1 .1 .1 .0)
 
   abbrev endX : ℕ
   endX = endG atG + c .count2 .result
 
   behindX : Holds (toX (code sX)) (buffer sX) outX endX
   behindX =
-      let call = c .before .before .before .write-logicals in
+      let call = c .before .before .before .write-rows2 in
       let part = lent (endG atG) (outG atG) in
       let whole = rows-has-room 120 (code sX .n) (take (k sX) (code sX .x)) part (qubits sX .0) (qubits sX .1)
       (room-behind (behindG atG) (linesX sX) (omega (arith, fitsX sX, ap length (moreX sX)))) in
@@ -119,10 +119,10 @@ module _ (c : tie.After-count3) where
   s = sX atX
 
   behindZ : Holds (allRowsText (code s)) (buffer s)
-      (back (endX atX) (outX atX) (c .before .before .before .write-logicals2 .last .1 .1 .1 .1 .0))
+      (back (endX atX) (outX atX) (c .before .before .before .write-rows3 .last .1 .1 .1 .1 .0))
       (endX atX + c .count3 .result)
   behindZ =
-      let call = c .before .before .before .write-logicals2 in
+      let call = c .before .before .before .write-rows3 in
       let part = lent (endX atX) (outX atX) in
       let whole = rows-has-room 122 (code s .n) (take (k s) (code s .z)) part (qubits s .0) (qubits s .1)
       (room-behind (behindX atX) (linesZ s) (omega (arith, fitsZ s, ap length (moreZ s)))) in
