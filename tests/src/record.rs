@@ -109,7 +109,7 @@ impl Record {
             26 => self.x[n - r] = Pauli { p: 0, a: 0, b: 1 },
             27 => self.z[0].b |= 1 << 31,
             28 => self.z[0].p += 3,
-            29 => self.z[23] = Pauli { p: 2, a: 0, b: 0 },
+            29 => self.z[31] = Pauli { p: 2, a: 0, b: 0 },
             _ => panic!("no change has the number {number}"),
         }
     }
@@ -326,7 +326,7 @@ mod tests {
         outside(|c| c.g[4].a = 1);
         outside(|c| c.g[31].b = 1);
         outside(|c| c.x[1].b = 1);
-        outside(|c| c.z[23].p = 2);
+        outside(|c| c.z[31].p = 2);
     }
 
     #[test]
