@@ -1,7 +1,7 @@
 -- The refusals of a reading are brief, as text: reader by reader, each refusal names a line of the sheet, and the rows
 -- between two lines are counted.
 use mathlib.Core.Bool.{Bool, true, false, cond, _||_}
-use mathlib.Core.List.{List, []}
+use mathlib.Core.List.{List}
 use mathlib.Core.Option.{Option}
 use mathlib.Core.Path.{_≡_, refl}
 use Prim.Native.Nat.{ℕ, zero, suc, _+_, _*_, _≤_}

@@ -17,7 +17,7 @@ use Rattle.pauli.specs.Product.{modulo4}
 use Rattle.refusals.specs.declared.Refusal.{Refusal}
 use Rattle.code_record.specs.Record.{mostQubits, mostDistance, mostGenerators, between, isRow}
 use Rattle.code_record.proofs.Limits.{neither, all-first, between-bounds}
-use Rattle.sheet.specs.Reader.{Reader, stop, done, _andThen_, begins, readLine, readNumber, readRow, readLetters}
+use Rattle.sheet.specs.Reader.{stop, done, _andThen_, begins, readLine, readNumber, readRow, readLetters}
 use Rattle.sheet.specs.Reader.{inRange, qubitLine, distanceLine, rowLine, rowsUpTo, countedGenerators}
 use Rattle.sheet.specs.Reader.{generatorLines, countedLogicals, logicalLines, claimLine}
 use Rattle.sheet.specs.Statements.{Among}
