@@ -1,2 +1,3 @@
 pub mod LineKinds
 pub mod Values
+pub mod LineValues

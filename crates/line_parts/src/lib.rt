@@ -1,5 +1,5 @@
-// What the parts of a sheet's line are read as: the key at its start, which tells its kind, and the words behind it,
-// which are numbers and letters.
+// What the parts of a sheet's line are read as: the key at its start, which tells its kind, the words behind it, which
+// are numbers and letters, and the line feed at its end.
 use code_record::MOST_QUBITS;
 use letters::Letter;
 use letters::LetterRead;
@@ -7,10 +7,13 @@ use letters::Sign;
 use pauli::Pauli;
 use refusals::Family;
 ghost use mathlib.Core.Path.{_≡_};
+ghost use lib.Dec.{eqb};
+ghost use lib.ListN.{getD};
 ghost use Rattle.letters.specs.Lists.{bytes};
 ghost use Rattle.code_record.specs.Record.{mostQubits};
 ghost use Rattle.refusals.specs.Families.{rowKey};
 ghost use Rattle.sheet.specs.Reader.{begins, readDigit, readNumber, readLetters};
+ghost use Rattle.sheet.specs.Text.{lineFeed};
 ghost use Rattle.line_parts.specs.LineKinds.{lineKind};
 ghost use Rattle.line_parts.specs.Values.{numberIn, rowIn, mostDigits, upTo};
 
@@ -137,4 +140,14 @@ pub fn read_letters(word: &[u8]) -> Letters
         b = letter.z_bit() + 2 * b;
     }
     Letters::Got(Pauli::signed(Sign::Plus, a, b))
+}
+
+// Whether a line feed stands at a place. Behind the last byte there is none.
+pub fn line_feed_at(s: &[u8], place: usize) -> bool
+    ensures { λ r. ⌜ r ≡ eqb (getD (now (s .entry)) place 0) lineFeed ⌝ }
+{
+    if s.len() <= place {
+        return false;
+    }
+    s[place] == b'\n'
 }

@@ -14,10 +14,12 @@ use Rattle.sheet.specs.Reader.{Parsed, got, stop, done, generatorLines, claimLi
 use Rattle.sheet.specs.Writer.{rowLines}
 use Rattle.sheet.proofs.Consumed.{OfForm, generator-lines-outcome, logical-lines-outcome, claim-line-outcome}
 use Rattle.sheet.proofs.Outcome.{Outcome, gets, stops, continue-outcome, Took}
-use Rattle.lines.specs.declared.NumberLine.{NumberLine}
-use Rattle.lines.specs.declared.RowLine.{RowLine}
-use Rattle.lines.specs.Answers.{linesOf, valueOr, numberAnswer, rowAnswer, withinQubits}
-use Rattle.lines.proofs.Lines.{few-qubits}
+use Rattle.line_parts.specs.LineValues.{linesOf, valueOr}
+use Rattle.number_reader.specs.declared.NumberLine.{NumberLine}
+use Rattle.number_reader.specs.Answers.{numberAnswer}
+use Rattle.row_reader.specs.declared.RowLine.{RowLine}
+use Rattle.row_reader.specs.Answers.{rowAnswer, withinQubits}
+use Rattle.row_reader.proofs.Answers.{few-qubits}
 use Rattle.row_lines.specs.declared.Rows.{Rows}
 use Rattle.row_lines.specs.declared.Logicals.{Logicals}
 use Rattle.row_lines.specs.Answers.{linesAt, rowsAnswer, AnswersRows, pairLines, logicalsAnswer, AnswersLogicals}

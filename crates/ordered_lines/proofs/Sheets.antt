@@ -10,7 +10,7 @@ use Rattle.refusals.specs.declared.Refusal.{Refusal}
 use Rattle.code_record.specs.Record.{pairCount, codeOf}
 use Rattle.sheet.specs.Reader.{Parsed, Reader, SheetRead, got, stop, done, continue, answered}
 use Rattle.sheet.specs.Reader.{logicalLines, claimLine, linesAfter}
-use Rattle.lines.proofs.Reading.{bytes-used, then-got}
+use Rattle.sheet.proofs.Reading.{bytes-used, then-got}
 use Rattle.row_lines.specs.Answers.{pairLines}
 use Rattle.ordered_lines.specs.Answers.{emptyBeside, withClaim, countedRows, filledLogicals}
 

@@ -55,7 +55,7 @@ fn claim_after(
     requires { ⌜ n ≤ mostQubits ⌝ }
     ensures { λ q. ⌜ ReadsClaim (now (s .entry)) from generators logicals (withClaim n d at) q ⌝ }
 {
-    let claim = lines::claim_line(&s[from..], n, at);
+    let claim = row_reader::claim_line(&s[from..], n, at);
     let answer = claim.answer;
     let Lines::Read { used } = answer else {
         return refused(answer);
@@ -126,7 +126,7 @@ fn lines_from_d(s: &[u8], from: usize, n: usize) -> LinesReading
     requires { ⌜ n ≤ mostQubits ⌝ }
     ensures { λ q. ⌜ ReadsOn (now (s .entry)) from (linesFromD n) q ⌝ }
 {
-    let distance = lines::distance_line(&s[from..]);
+    let distance = number_reader::distance_line(&s[from..]);
     let answer = distance.answer;
     let Lines::Read { used } = answer else {
         return refused(answer);
@@ -138,7 +138,7 @@ fn lines_from_d(s: &[u8], from: usize, n: usize) -> LinesReading
 pub fn sheet_lines(s: &[u8]) -> LinesReading
     ensures { λ r. ⌜ r ≡ answered (now (s .entry)) (sheetLines (now (s .entry))) ⌝ }
 {
-    let qubits = lines::qubit_line(s);
+    let qubits = number_reader::qubit_line(s);
     let answer = qubits.answer;
     let Lines::Read { used } = answer else {
         return refused(answer);

@@ -10,8 +10,8 @@ use Rattle.refusals.specs.declared.Lines.{Lines}
 use Rattle.refusals.specs.declared.Refusal.{Refusal}
 use Rattle.code_record.specs.Record.{rowRoom, filled}
 use Rattle.sheet.specs.Reader.{Parsed, Reader, got, stop, done, continue, logicalLines}
-use Rattle.lines.specs.Answers.{linesOf, valueOr}
-use Rattle.lines.proofs.Reading.{bytes-used, then-got, then-stop}
+use Rattle.sheet.proofs.Reading.{bytes-used, then-got, then-stop}
+use Rattle.line_parts.specs.LineValues.{linesOf, valueOr}
 use Rattle.row_lines.specs.declared.Rows.{Rows}
 use Rattle.row_lines.specs.declared.RowsAnswer.{RowsAnswer}
 use Rattle.row_lines.specs.declared.Logicals.{Logicals}

@@ -15,7 +15,7 @@ use Rattle.refusals.specs.declared.Refusal.{Refusal}
 use Rattle.code_record.specs.Record.{rowRoom, mostGenerators, filled}
 use Rattle.sheet.specs.Reader.{got, stop, begins, rowsUpTo, generatorLines, countedGenerators}
 use Rattle.sheet.specs.Reader.{logicalLines, countedLogicals}
-use Rattle.lines.proofs.Reading.{then-got, then-stop}
+use Rattle.sheet.proofs.Reading.{then-got, then-stop}
 use Rattle.row_lines.specs.declared.Gathered.{Gathered}
 use Rattle.row_lines.specs.Answers.{rowsLeft, Gathers, Held, GathersLogicals}
 use Rattle.row_lines.proofs.Progress.{progress-refused, progress-end}

@@ -15,9 +15,11 @@ use Rattle.refusals.specs.declared.Refusal.{Refusal}
 use Rattle.code_record.specs.Record.{mostQubits}
 use Rattle.refusals.specs.Families.{rowKey}
 use Rattle.sheet.specs.Reader.{got, stop, begins, readRow, rowLine}
-use Rattle.lines.specs.declared.RowLine.{RowLine}
-use Rattle.lines.specs.Answers.{valueFrom, linesOf, valueOr, rowAnswer, rowBehindKey, withinQubits}
-use Rattle.lines.proofs.Lines.{value-within, line-no-value, line-value, few-qubits, row-line-form}
+use Rattle.line_parts.specs.LineValues.{valueFrom, linesOf, valueOr}
+use Rattle.line_parts.proofs.LineValues.{value-within, line-no-value, line-value}
+use Rattle.row_reader.specs.declared.RowLine.{RowLine}
+use Rattle.row_reader.specs.Answers.{rowAnswer, rowBehindKey, withinQubits}
+use Rattle.row_reader.proofs.Answers.{few-qubits, row-line-form}
 
 data RowForm (n : ℕ) (s : List ℕ) : Type 0 where
   off-form : ((at : ℕ) → rowBehindKey n at s ≡ stop (Refusal.Form at)) → RowForm n s

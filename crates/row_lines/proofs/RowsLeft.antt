@@ -10,7 +10,7 @@ use Rattle.letters.specs.Lists.{bytes}
 use Rattle.refusals.specs.declared.Refusal.{Refusal}
 use Rattle.sheet.specs.Reader.{Reader, got, stop, done, continue, begins, isLine, lineOf}
 use Rattle.sheet.specs.Reader.{rowLine, rowsUpTo}
-use Rattle.lines.proofs.Reading.{then-got, then-stop}
+use Rattle.sheet.proofs.Reading.{then-got, then-stop}
 use Rattle.row_lines.specs.Answers.{rowsLeft}
 
 -- A line that does not begin with the key is off its form, so one that has a row begins with it.

@@ -11,7 +11,7 @@ use Rattle.refusals.specs.declared.Refusal.{Refusal}
 use Rattle.code_record.specs.Record.{rowRoom, filled}
 use Rattle.sheet.specs.Reader.{Parsed, Reader, got, stop, done, continue, _andThen_}
 use Rattle.sheet.specs.Reader.{rowLine, rowsUpTo, logicalLines}
-use Rattle.lines.specs.Answers.{linesOf, valueOr}
+use Rattle.line_parts.specs.LineValues.{linesOf, valueOr}
 use Rattle.row_lines.specs.declared.RowRead.{RowRead}
 use Rattle.row_lines.specs.declared.Gathered.{Gathered}
 use Rattle.row_lines.specs.declared.LogicalRows.{LogicalRows}

@@ -11,7 +11,7 @@ ghost use lib.ListN.{length, take};
 ghost use Rattle.code_record.specs.Record.{rowRoom, mostQubits, pairCount};
 ghost use Rattle.refusals.specs.Families.{rowKey};
 ghost use Rattle.sheet.specs.Reader.{rowLine, generatorLines};
-ghost use Rattle.lines.specs.Answers.{withinQubits};
+ghost use Rattle.row_reader.specs.Answers.{withinQubits};
 ghost use Rattle.row_lines.specs.Answers.{bytesOf, rowAt, Gathers, GathersLogicals, before, AnswersRows};
 ghost use Rattle.row_lines.specs.Answers.{AnswersLogicals, noRows, noLogicals, pairLines};
 
@@ -30,7 +30,7 @@ fn row_line(s: &[u8], family: Family, n: usize) -> RowRead
     if !line_parts::begins_row(s, family) {
         return RowRead::OffForm;
     }
-    let line = lines::signed_row(s, n, 0);
+    let line = row_reader::signed_row(s, n, 0);
     let answer = line.answer;
     let Lines::Read { used } = answer else {
         return RowRead::OffForm;

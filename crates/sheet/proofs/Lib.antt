@@ -2,6 +2,7 @@ pub mod Examples
 pub mod Lengths
 pub mod Values
 pub mod Outcome
+pub mod Reading
 pub mod Line
 pub mod Consumed
 pub mod ReadBack

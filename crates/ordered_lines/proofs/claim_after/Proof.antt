@@ -8,8 +8,8 @@ use lib.ListN.{drop}
 use Rattle.code_record.specs.Record.{codeOf}
 use Rattle.sheet.specs.Reader.{done, claimLine}
 use Rattle.sheet.proofs.Parts.{tail-of}
-use Rattle.lines.specs.Answers.{rowAnswer, withinQubits}
-use Rattle.lines.proofs.Reading.{then-stop}
+use Rattle.sheet.proofs.Reading.{then-stop}
+use Rattle.row_reader.specs.Answers.{rowAnswer, withinQubits}
 use Rattle.ordered_lines.specs.Answers.{Reads}
 use Rattle.ordered_lines.proofs.Reached.{Reached, was-refused, reached-more, claim-reads}
 use Rattle.ordered_lines.proofs.Sheets.{claim-read, sheet-refused, sheet-read}

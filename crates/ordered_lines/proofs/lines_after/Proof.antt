@@ -10,8 +10,8 @@ use Rattle.pauli.specs.declared.Pauli.{Pauli}
 use Rattle.code_record.specs.Record.{mostQubits, pairCount}
 use Rattle.sheet.specs.Reader.{Reader, SheetRead, answered}
 use Rattle.sheet.proofs.Parts.{tail-of}
-use Rattle.lines.specs.Answers.{withinQubits}
-use Rattle.lines.proofs.Reading.{then-got, then-stop}
+use Rattle.sheet.proofs.Reading.{then-got, then-stop}
+use Rattle.row_reader.specs.Answers.{withinQubits}
 use Rattle.row_lines.specs.declared.Logicals.{Logicals}
 use Rattle.row_lines.specs.Answers.{pairLines, AnswersLogicals}
 use Rattle.ordered_lines.specs.Answers.{Reads, withClaim}

@@ -8,8 +8,8 @@ use lib.ListN.{drop}
 use Rattle.sheet.specs.Reader.{distanceLine, answered}
 use Rattle.sheet.proofs.Consumed.{distance-line-outcome}
 use Rattle.sheet.proofs.Parts.{tail-of}
-use Rattle.lines.specs.Answers.{numberAnswer}
-use Rattle.lines.proofs.Reading.{then-got, then-stop}
+use Rattle.sheet.proofs.Reading.{then-got, then-stop}
+use Rattle.number_reader.specs.Answers.{numberAnswer}
 use Rattle.ordered_lines.specs.Answers.{Reads, linesFromG}
 use Rattle.ordered_lines.proofs.Reached.{Reached, was-refused, reached-more, number-reads}
 use Rattle.ordered_lines.proofs.Sheets.{sheet-refused}

@@ -12,8 +12,8 @@ use Rattle.sheet.specs.Reader.{Reader, SheetRead, generatorLines, linesAfter, a
 use Rattle.sheet.proofs.Consumed.{generator-lines-outcome}
 use Rattle.sheet.proofs.Outcome.{what-was-got}
 use Rattle.sheet.proofs.Parts.{tail-of}
-use Rattle.lines.specs.Answers.{withinQubits}
-use Rattle.lines.proofs.Reading.{then-got, then-stop}
+use Rattle.sheet.proofs.Reading.{then-got, then-stop}
+use Rattle.row_reader.specs.Answers.{withinQubits}
 use Rattle.row_lines.specs.declared.Rows.{Rows}
 use Rattle.row_lines.specs.Answers.{AnswersRows}
 use Rattle.ordered_lines.specs.Answers.{Reads, countedRows}

@@ -7,7 +7,7 @@ use Rattle.code_record.specs.Record.{mostQubits}
 use Rattle.sheet.specs.Reader.{qubitLine, sheetLines, answered}
 use Rattle.sheet.proofs.Outcome.{what-was-got}
 use Rattle.sheet.proofs.Consumed.{qubit-line-outcome}
-use Rattle.lines.proofs.Reading.{then-got, then-stop}
+use Rattle.sheet.proofs.Reading.{then-got, then-stop}
 use Rattle.ordered_lines.specs.Answers.{Reads, linesFromD}
 use Rattle.ordered_lines.proofs.Reached.{Reached, was-read, was-refused, number-reads}
 use Rattle.ordered_lines.proofs.Sheets.{sheet-refused}

@@ -11,8 +11,8 @@ use Rattle.refusals.specs.declared.Refusal.{Refusal}
 use Rattle.code_record.specs.Record.{rowRoom, mostGenerators}
 use Rattle.sheet.specs.Reader.{begins, generatorLines}
 use Rattle.sheet.proofs.Parts.{tail-of}
-use Rattle.lines.specs.Answers.{withinQubits}
-use Rattle.lines.proofs.Lines.{few-qubits, many-qubits}
+use Rattle.row_reader.specs.Answers.{withinQubits}
+use Rattle.row_reader.proofs.Answers.{few-qubits, many-qubits}
 use Rattle.row_lines.specs.declared.Gathered.{Gathered}
 use Rattle.row_lines.specs.Answers.{Gathers, rowsAnswer}
 use Rattle.row_lines.proofs.Counted.{generators-off-form, generators-too-many, generators-none, generators-read}

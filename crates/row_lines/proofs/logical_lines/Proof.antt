@@ -8,8 +8,8 @@ use borrow.Author.Needs.{needs}
 use lib.ListN.{length, drop, length-drop}
 use Rattle.code_record.specs.Record.{rowRoom, pairCount}
 use Rattle.sheet.proofs.Parts.{tail-of}
-use Rattle.lines.specs.Answers.{withinQubits}
-use Rattle.lines.proofs.Lines.{few-qubits, many-qubits}
+use Rattle.row_reader.specs.Answers.{withinQubits}
+use Rattle.row_reader.proofs.Answers.{few-qubits, many-qubits}
 use Rattle.row_lines.specs.declared.LogicalRows.{LogicalRows}
 use Rattle.row_lines.specs.Answers.{GathersLogicals, logicalsAnswer, pairLines}
 use Rattle.row_lines.proofs.Answered.{logicals-before, logicals-none, x-refused, z-refused, pairs-given}

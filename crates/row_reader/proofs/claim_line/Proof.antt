@@ -1,0 +1,84 @@
+-- The line is of another kind; or it has no letters; or they are read.
+use mathlib.Core.List.{List}
+use mathlib.Core.Option.{some}
+use mathlib.Core.Path.{_≡_, ap, sym, _∙_}
+use Prim.Native.Nat.{ℕ, _+_, _<_}
+use native.Mathlib.Omega.{arith}
+use borrow.Author.Needs.{needs}
+use lib.ListN.{length}
+use Rattle.code_record.specs.Record.{mostQubits}
+use Rattle.sheet.specs.Reader.{readLetters}
+use Rattle.line_parts.specs.declared.LineKind.{LineKind}
+use Rattle.line_parts.specs.LineKinds.{lineKind}
+use Rattle.line_parts.specs.Values.{rowIn, upTo}
+use Rattle.line_parts.proofs.Keys.{other-kind}
+use Rattle.line_parts.specs.LineValues.{valueFrom}
+use Rattle.line_parts.proofs.LineValues.{value-within}
+use Rattle.row_reader.specs.Answers.{rowAnswer}
+use Rattle.row_reader.proofs.LetterLines.{claim-other, claim-no-letters, claim-value}
+use Rattle.row_reader.proofs.Answers.{row-read}
+use Rattle.row_reader.proofs.claim_line.Statement.{statement}
+use Rattle.row_reader.proofs.claim_line.Tie as tie
+
+abbrev start : tie.After-enum-told → tie.Start
+start c = c .before .before .before .before
+
+abbrev s : tie.Start → List ℕ
+s c = c .args .s .now
+
+keyed : (c : tie.After-enum-told) → lineKind (s (start c)) ≡ LineKind.Claim
+keyed c = sym (c .before .before .line-kind .ensures) ∙ c .enum-told .given .1
+
+returns : tie.Need-returns
+returns c =
+    c .refused .ensures _
+    ∙ ap (rowAnswer _)
+    (sym
+    (claim-other _ _ _
+    (λ e. other-kind LineKind.Claim (c .before .match .keys2) (c .before .before .line-kind .ensures ∙ e))))
+
+returns-2 : tie.Need-returns-2
+returns-2 c =
+    let found = c .before .before .before in
+    c .refused2 .ensures _
+    ∙ ap (rowAnswer _)
+    (sym
+    (claim-no-letters _ _ _ (keyed (found .before)) (sym (found .line-letters .ensures)
+    ∙ ap rowIn (c .before .enum-told2 .given .1))))
+
+abbrev start-of-row : tie.After-row → tie.Start
+start-of-row c = start (c .before .before .before)
+
+letters-are : (c : tie.After-row)
+    → valueFrom 2 (start-of-row c .args .n) (upTo mostQubits readLetters) (s (start-of-row c))
+    ≡ some (c .row .given .0 .0)
+letters-are c = sym (c .before .before .line-letters .ensures) ∙ ap rowIn (c .row .given .1)
+
+within : (c : tie.After-row) → start-of-row c .args .n + 2 < length (s (start-of-row c))
+within c =
+    value-within 2 (start-of-row c .args .n) (upTo mostQubits readLetters) (s (start-of-row c)) (letters-are c)
+
+add-t7 : tie.Need-add-t7
+add-t7 c = omega (arith, within (c .before))
+
+returns-3 : tie.Need-returns-3
+returns-3 c =
+    let row = c .before in
+    row-read _ _ (omega (arith, within row)) _
+    (claim-value _ _ _ (keyed (row .before .before .before)) (letters-are row))
+
+pub claim-line-spec : {M : Type 1} → statement M
+claim-line-spec =
+    tie.close
+    (tie.spec
+    (λ c κs. search needs)
+    (λ c. search needs)
+    (λ c κs. search needs)
+    returns
+    (λ c κs. search needs)
+    (λ c. search needs)
+    (λ c. search needs)
+    (λ c κs. search needs)
+    returns-2
+    add-t7
+    returns-3)
