@@ -1,41 +1,23 @@
 -- What the counts of the rows make of the lines that were read.
 use mathlib.Core.Bool.{Bool, true, false, or-true}
-use mathlib.Core.List.{List, [], _∷_, _++_}
+use mathlib.Core.List.{List, []}
 use mathlib.Core.Path.{_≡_, refl, ap, sym, _∙_}
-use Prim.Native.Nat.{ℕ, zero, suc, _+_, _-_, _<_, _≤_}
+use Prim.Native.Nat.{ℕ, _+_, _<_, _≤_}
 use Prim.Native.String.{String}
 use native.Mathlib.Omega.{arith}
 use borrow.Author.Tests.{lt-ltb, le-ltb, eq-eqb, ne-eqb}
-use lib.ListN.{length, take, drop, replicate}
-use lib.Seq.{take-append-add}
+use lib.ListN.{length, drop}
 use Rattle.pauli.specs.declared.Pauli.{Pauli}
 use Rattle.letters.specs.Lists.{bytes}
-use Rattle.pauli.specs.Product.{identity}
 use Rattle.refusals.specs.declared.Refusal.{Refusal}
-use Rattle.code_record.specs.Record.{rowRoom, mostGenerators, filled}
+use Rattle.code_record.specs.Record.{rowRoom, mostGenerators}
 use Rattle.sheet.specs.Reader.{got, stop, begins, rowsUpTo, generatorLines, countedGenerators}
 use Rattle.sheet.specs.Reader.{logicalLines, countedLogicals}
 use Rattle.lines.proofs.Reading.{then-got, then-stop}
 use Rattle.row_lines.specs.declared.Gathered.{Gathered}
-use Rattle.row_lines.specs.Answers.{rowsLeft, Gathers, Held, GathersLogicals}
+use Rattle.row_lines.specs.Answers.{rowsLeft, Gathers, Held}
 use Rattle.row_lines.proofs.Progress.{progress-refused, progress-end}
 use Rattle.row_lines.proofs.RowsLeft.{rows-all, rows-full, rows-ended, rows-refused}
-
--- The rows in an array of a shorter room.
-take-replicate : (m n : ℕ) (P : Pauli) → m ≤ n → take m (replicate n P) ≡ replicate m P
-take-replicate zero n P h = refl
-take-replicate (suc m) zero P h = absurd (omega arith)
-take-replicate (suc m) (suc n) P h = ap (λ rest. P ∷ rest) (take-replicate m n P (omega arith))
-
-pub shorter-room : (ls : List Pauli) → length ls ≤ rowRoom
-    → take rowRoom (filled rowRoom ls) ≡ filled rowRoom ls
-unfolding filled
-shorter-room ls h =
-    let places : rowRoom ≡ length ls + (rowRoom - length ls) = omega arith in
-    let fewer : rowRoom - length ls ≤ rowRoom - length ls = omega arith in
-    ap (λ m. take m (ls ++ replicate (rowRoom - length ls) identity)) places
-    ∙ take-append-add ls (replicate (rowRoom - length ls) identity) (rowRoom - length ls)
-    ∙ ap (λ rest. ls ++ rest) (take-replicate _ _ _ fewer)
 
 -- ---- rows of any key
 
@@ -124,7 +106,7 @@ module _ (k : ℕ) (key : String) (n at : ℕ) (s : List ℕ) {ls : List Pauli} 
 
 module _ {k : ℕ} {key : String} {n : ℕ} {s : List ℕ} {r : Gathered} (h : Gathers s key n k r) where
   -- a line is missing, or off its form
-  logicals-short : r .count < k → (at : ℕ) → logicalLines k key n at s ≡ stop (Refusal.Form (at + r .count))
+  pub logicals-short : r .count < k → (at : ℕ) → logicalLines k key n at s ≡ stop (Refusal.Form (at + r .count))
   unfolding logicalLines
   logicals-short few at = by-key (begins (bytes key) (drop (r .used) s)) refl
     where
@@ -136,22 +118,13 @@ module _ {k : ℕ} {key : String} {n : ℕ} {s : List ℕ} {r : Gathered} (h : G
           logicals-missing k key n at s (m .gives) (omega (arith, m .counted))
           ∙ ap (λ i. stop (Refusal.Form (at + i))) (m .counted)
 
-  -- the same in an array with room for the logicals
-  pub logicals-gathered : {rows : List Pauli} → rows ≡ take rowRoom (r .rows) → k ≤ rowRoom
-      → GathersLogicals s key n k (record { used = r .used; count = r .count; rows = rows })
-  logicals-gathered copied room =
+  pub logicals-all : k ≤ r .count → (at : ℕ)
+      → Held rowRoom s (r .used) (r .count) (r .rows) (logicalLines k key n at s)
+  logicals-all full at =
+      let m = rows-all-read h full at in
       record {
-        few = h .few;
-        within = h .within;
-        short = logicals-short;
-        all = λ full at.
-            let m = rows-all-read h full at in
-            record {
-              read = m .read;
-              held =
-                  copied ∙ ap (take rowRoom) (m .held)
-                  ∙ shorter-room (m .read) (omega (arith, m .counted, h .few));
-              counted = m .counted;
-              gives = logicals-counted k key n at s (m .gives) (omega (arith, m .counted));
-            };
+        read = m .read;
+        held = m .held;
+        counted = m .counted;
+        gives = logicals-counted k key n at s (m .gives) (omega (arith, m .counted));
       }

@@ -14,7 +14,6 @@ use Rattle.sheet.specs.Reader.{rowLine, rowsUpTo, logicalLines}
 use Rattle.lines.specs.Answers.{linesOf, valueOr}
 use Rattle.row_lines.specs.declared.RowRead.{RowRead}
 use Rattle.row_lines.specs.declared.Gathered.{Gathered}
-use Rattle.row_lines.specs.declared.LogicalRows.{LogicalRows}
 use Rattle.row_lines.specs.declared.RowsAnswer.{RowsAnswer}
 use Rattle.row_lines.specs.declared.Rows.{Rows}
 use Rattle.row_lines.specs.declared.Logicals.{Logicals}
@@ -64,13 +63,6 @@ pub record Held (room : ℕ) (s : List ℕ) (used count : ℕ) (rows : List Paul
   pub held : rows ≡ filled room read
   pub counted : length read ≡ count
   pub gives : definition ≡ got read (drop used s)
-
--- The logicals of one kind are k, or the first line that is missing or off its form is behind those that there are.
-pub record GathersLogicals (s : List ℕ) (key : String) (n k : ℕ) (r : LogicalRows) : Type 0 where
-  pub few : r .count ≤ k
-  pub within : r .used ≤ length s
-  pub short : r .count < k → (at : ℕ) → logicalLines k key n at s ≡ stop (Refusal.Form (at + r .count))
-  pub all : k ≤ r .count → (at : ℕ) → Held rowRoom s (r .used) (r .count) (r .rows) (logicalLines k key n at s)
 
 -- ---- what the public calls answer
 

@@ -7,12 +7,12 @@ use refusals::Family;
 use refusals::Lines;
 ghost use mathlib.Core.Path.{_≡_};
 ghost use Prim.Native.Nat.{ℕ, _*_, _≤_};
-ghost use lib.ListN.{length, take};
+ghost use lib.ListN.{length};
 ghost use Rattle.code_record.specs.Record.{rowRoom, mostQubits, pairCount};
 ghost use Rattle.refusals.specs.Families.{rowKey};
 ghost use Rattle.sheet.specs.Reader.{rowLine, generatorLines};
 ghost use Rattle.lines.specs.Answers.{withinQubits};
-ghost use Rattle.row_lines.specs.Answers.{bytesOf, rowAt, Gathers, GathersLogicals, before, AnswersRows};
+ghost use Rattle.row_lines.specs.Answers.{bytesOf, rowAt, Gathers, before, AnswersRows};
 ghost use Rattle.row_lines.specs.Answers.{AnswersLogicals, noRows, noLogicals, pairLines};
 
 // What a line is read as: a row, and how many bytes the line took.
@@ -126,41 +126,6 @@ pub fn generator_lines(s: &[u8], n: usize) -> Rows
     }
 }
 
-// The rows of an array that a record's array of logicals has room for.
-fn logical_rows(rows: [Pauli; ROW_ROOM]) -> [Pauli; ROW_ROOM]
-    ensures { λ r. ⌜ r ≡ take rowRoom rows ⌝ }
-{
-    let one = Pauli::identity();
-    let mut logicals = [one; ROW_ROOM];
-    for place in 0..ROW_ROOM {
-        let row = rows[place];
-        logicals[place] = row;
-    }
-    logicals
-}
-
-// The logicals of one kind, as rows are gathered.
-struct LogicalRows {
-    used: usize,
-    count: usize,
-    rows: [Pauli; ROW_ROOM],
-}
-
-// The lines of the logicals of one kind, until one is off its form or k are read.
-fn logicals_of(s: &[u8], family: Family, n: usize, k: usize) -> LogicalRows
-    requires { ⌜ n ≤ mostQubits ⌝ }
-    requires { ⌜ k ≤ rowRoom ⌝ }
-    ensures { λ r. ⌜ GathersLogicals (now (s .entry)) (rowKey family) n k r ⌝ }
-{
-    let read = rows_up_to(s, family, k, n);
-    let gathered = read.rows;
-    LogicalRows {
-        used: read.used,
-        count: read.count,
-        rows: logical_rows(gathered),
-    }
-}
-
 // The answer of the reader of the x and z lines, and their rows; none beside a refusal.
 pub struct Logicals {
     pub answer: RowsAnswer,
@@ -191,13 +156,13 @@ pub fn logical_lines(s: &[u8], n: usize, r: usize) -> Logicals
         return Logicals::off_form(0);
     }
     let k = code_record::pair_count(n, r);
-    let xs = logicals_of(s, Family::LogicalX, n, k);
+    let xs = rows_up_to(s, Family::LogicalX, k, n);
     let count = xs.count;
     if count < k {
         return Logicals::off_form(count);
     }
     let to_z = xs.used;
-    let zs = logicals_of(&s[to_z..], Family::LogicalZ, n, k);
+    let zs = rows_up_to(&s[to_z..], Family::LogicalZ, k, n);
     let count = zs.count;
     if count < k {
         return Logicals::off_form(k + count);

@@ -10,22 +10,23 @@ use Rattle.code_record.specs.Record.{rowRoom, pairCount}
 use Rattle.sheet.proofs.Parts.{tail-of}
 use Rattle.lines.specs.Answers.{withinQubits}
 use Rattle.lines.proofs.Lines.{few-qubits, many-qubits}
-use Rattle.row_lines.specs.declared.LogicalRows.{LogicalRows}
-use Rattle.row_lines.specs.Answers.{GathersLogicals, logicalsAnswer, pairLines}
+use Rattle.row_lines.specs.declared.Gathered.{Gathered}
+use Rattle.row_lines.specs.Answers.{Gathers, logicalsAnswer, pairLines}
+use Rattle.row_lines.proofs.Counted.{logicals-short, logicals-all}
 use Rattle.row_lines.proofs.Answered.{logicals-before, logicals-none, x-refused, z-refused, pairs-given}
 use Rattle.row_lines.proofs.logical_lines.Statement.{statement}
 use Rattle.row_lines.proofs.logical_lines.Tie as tie
 
-abbrev start : tie.After-logicals-of → tie.Start
+abbrev start : tie.After-rows-up-to → tie.Start
 start c = c .before .before .before .before
 
-abbrev s : tie.After-logicals-of → List ℕ
+abbrev s : tie.After-rows-up-to → List ℕ
 s c = start c .args .s .now
 
-abbrev n : tie.After-logicals-of → ℕ
+abbrev n : tie.After-rows-up-to → ℕ
 n c = start c .args .n
 
-abbrev k : tie.After-logicals-of → ℕ
+abbrev k : tie.After-rows-up-to → ℕ
 k c = c .before .pair-count .result
 
 few : (c : tie.After-pair-count) → c .pair-count .result ≤ rowRoom
@@ -33,34 +34,34 @@ unfolding pairCount
 few c = omega (arith, c .pair-count .ensures, c .before .if1 .left)
 
 -- the definition, of no more qubits than a sheet may have
-within : (c : tie.After-logicals-of) (at : ℕ)
+within : (c : tie.After-rows-up-to) (at : ℕ)
     → withinQubits (n c) at (pairLines (pairCount (n c) (start c .args .r)) (n c) at) (s c)
     ≡ pairLines (k c) (n c) at (s c)
 within c at =
     few-qubits (n c) at (pairLines (pairCount (n c) (start c .args .r)) (n c) at) (s c) (c .before .before .if1 .left)
     ∙ ap (λ m. pairLines m (n c) at (s c)) (sym (c .before .pair-count .ensures))
 
-abbrev x : tie.After-logicals-of → LogicalRows
-x c = c .logicals-of .result
+abbrev x : tie.After-rows-up-to → Gathered
+x c = c .rows-up-to .result
 
 -- ---- z
 
-abbrev first : tie.After-logicals-of2 → tie.After-logicals-of
+abbrev first : tie.After-rows-up-to2 → tie.After-rows-up-to
 first c = c .before .before .before
 
-abbrev z : tie.After-logicals-of2 → LogicalRows
-z c = c .logicals-of2 .result
+abbrev z : tie.After-rows-up-to2 → Gathered
+z c = c .rows-up-to2 .result
 
-z-gathers : (c : tie.After-logicals-of2)
-    → GathersLogicals (drop (x (first c) .used) (s (first c))) "z=" (n (first c)) (k (first c)) (z c)
+z-gathers : (c : tie.After-rows-up-to2)
+    → Gathers (drop (x (first c) .used) (s (first c))) "z=" (n (first c)) (k (first c)) (z c)
 z-gathers c =
-    subst (λ t. GathersLogicals t "z=" (n (first c)) (k (first c)) (z c)) (tail-of (x (first c) .used) (s (first c)))
-    (c .logicals-of2 .ensures)
+    subst (λ t. Gathers t "z=" (n (first c)) (k (first c)) (z c)) (tail-of (x (first c) .used) (s (first c)))
+    (c .rows-up-to2 .ensures)
 
-both-within : (c : tie.After-logicals-of2) → x (first c) .used + z c .used ≤ length (s (first c))
+both-within : (c : tie.After-rows-up-to2) → x (first c) .used + z c .used ≤ length (s (first c))
 both-within c =
     let from-x = length-drop (x (first c) .used) (s (first c)) in
-    omega (arith, first c .logicals-of .ensures .within, z-gathers c .within)
+    omega (arith, first c .rows-up-to .ensures .within, z-gathers c .within)
 
 -- ---- the needs
 
@@ -70,34 +71,34 @@ returns c = (
   λ at. logicals-none (c .off-form .ensures) _ at (omega arith) (many-qubits _ at _ _ (c .before .if1 .taken)),
 )
 
-logicals-of-requires : tie.Need-logicals-of-requires
-logicals-of-requires c κs = (search needs, few c)
+rows-up-to-requires : tie.Need-rows-up-to-requires
+rows-up-to-requires c κs = (few c, search needs)
 
 returns-2 : tie.Need-returns-2
 returns-2 c =
     let line = c .before .before in (
-      logicals-before (c .off-form2 .ensures) _ (omega (arith, line .logicals-of .ensures .few, few (line .before))),
+      logicals-before (c .off-form2 .ensures) _ (omega (arith, line .rows-up-to .ensures .few, few (line .before))),
       λ at. logicals-none (c .off-form2 .ensures) _ at refl
           (within line at ∙ x-refused (k line) (n line) at (s line)
-          (line .logicals-of .ensures .short (c .before .if2 .taken) at)),
+          (logicals-short (line .rows-up-to .ensures) (c .before .if2 .taken) at)),
     )
 
-logicals-of-requires-2 : tie.Need-logicals-of-requires-2
-logicals-of-requires-2 c κs =
-    let begin = c .before .before in (begin .before .before .if1 .left, few (begin .before))
+rows-up-to-requires-2 : tie.Need-rows-up-to-requires-2
+rows-up-to-requires-2 c κs =
+    let begin = c .before .before in (few (begin .before), begin .before .before .if1 .left)
 
 add-off-form : tie.Need-add-off-form
-add-off-form c = let line = c .before in omega (arith, line .logicals-of2 .ensures .few, few (first line .before))
+add-off-form c = let line = c .before in omega (arith, line .rows-up-to2 .ensures .few, few (first line .before))
 
 returns-3 : tie.Need-returns-3
 returns-3 c =
     let line = c .before .before in
     let begin = first line in (
-      logicals-before (c .off-form3 .ensures) _ (omega (arith, line .logicals-of2 .ensures .few, few (begin .before))),
+      logicals-before (c .off-form3 .ensures) _ (omega (arith, line .rows-up-to2 .ensures .few, few (begin .before))),
       λ at. logicals-none (c .off-form3 .ensures) _ at (omega arith)
           (within begin at ∙ z-refused (k begin) (n begin) at (s begin)
-          (begin .logicals-of .ensures .all (line .before .before .if2 .left) at)
-          (z-gathers line .short (c .before .if3 .taken) (at + k begin))),
+          (logicals-all (begin .rows-up-to .ensures) (line .before .before .if2 .left) at)
+          (logicals-short (z-gathers line) (c .before .if3 .taken) (at + k begin))),
     )
 
 add-used : tie.Need-add-used
@@ -112,8 +113,8 @@ returns-4 c =
     let begin = first line in (
       omega arith,
       λ at. pairs-given (k begin) (n begin) at (s begin)
-          (begin .logicals-of .ensures .all (line .before .before .if2 .left) at)
-          (z-gathers line .all (all .if3 .left) (at + k begin))
+          (logicals-all (begin .rows-up-to .ensures) (line .before .before .if2 .left) at)
+          (logicals-all (z-gathers line) (all .if3 .left) (at + k begin))
           (both-within line)
           ∙ ap (logicalsAnswer (s begin)) (sym (within begin at)),
     )
@@ -125,13 +126,13 @@ logical-lines-spec =
     (λ c κs. search needs)
     returns
     (λ c κs. search needs)
-    logicals-of-requires
+    rows-up-to-requires
     (λ c κs. search needs)
     returns-2
     (λ c. search needs)
     (λ c. search needs)
     (λ c. search needs)
-    logicals-of-requires-2
+    rows-up-to-requires-2
     add-off-form
     (λ c κs. search needs)
     returns-3
