@@ -21,32 +21,33 @@ use Rattle.row_lines.proofs.RowsLeft.{rows-all, rows-full, rows-ended, 
 
 -- ---- rows of any key
 
-module _ {s : List ℕ} {key : String} {n most : ℕ} {r : Gathered} (h : Gathers s key n most r) where
+module _ {s : List ℕ} {from : ℕ} {key : String} {n most : ℕ} {r : Gathered}
+    (h : Gathers s from key n most r) where
   -- nothing is left
   ended : (at : ℕ) → rowsLeft key n most at (r .count) (drop (r .used) s) ≡ got [] (drop (r .used) s)
-      → Held rowRoom s (r .used) (r .count) (r .rows) (rowsUpTo most key n at s)
+      → Held rowRoom s (r .used) (r .count) (r .rows) (rowsUpTo most key n at (drop from s))
   ended at e =
       let p = h .progress at in
       record {
         read = p .read;
         held = p .held;
         counted = p .counted;
-        gives = sym (rows-all key n most at s) ∙ progress-end rowRoom _ s p e;
+        gives = sym (rows-all key n most at (drop from s)) ∙ progress-end rowRoom _ s from p e;
       }
 
   pub rows-all-read : most ≤ r .count → (at : ℕ)
-      → Held rowRoom s (r .used) (r .count) (r .rows) (rowsUpTo most key n at s)
+      → Held rowRoom s (r .used) (r .count) (r .rows) (rowsUpTo most key n at (drop from s))
   rows-all-read all at = ended at (rows-full key n most at (r .count) (drop (r .used) s) all)
 
   pub rows-behind : begins (bytes key) (drop (r .used) s) ≡ false → (at : ℕ)
-      → Held rowRoom s (r .used) (r .count) (r .rows) (rowsUpTo most key n at s)
+      → Held rowRoom s (r .used) (r .count) (r .rows) (rowsUpTo most key n at (drop from s))
   rows-behind other at = ended at (rows-ended key n most at (r .count) (drop (r .used) s) other)
 
   pub rows-off-form : begins (bytes key) (drop (r .used) s) ≡ true → r .count < most → (at : ℕ)
-      → rowsUpTo most key n at s ≡ stop (Refusal.Form (at + r .count))
+      → rowsUpTo most key n at (drop from s) ≡ stop (Refusal.Form (at + r .count))
   rows-off-form begun more at =
-      sym (rows-all key n most at s)
-      ∙ progress-refused rowRoom _ s (h .progress at)
+      sym (rows-all key n most at (drop from s))
+      ∙ progress-refused rowRoom _ s from (h .progress at)
       (rows-refused key n most at (r .count) (drop (r .used) s) more begun (h .ended more (at + r .count)))
 
 -- ---- g lines
@@ -57,7 +58,7 @@ module _ (n at : ℕ) (s : List ℕ) where
   unfolding generatorLines
   counted e = then-got (countedGenerators at) e
 
-module _ {n : ℕ} {s : List ℕ} {r : Gathered} (h : Gathers s "g=" n (mostGenerators n) r) (at : ℕ) where
+module _ {n : ℕ} {s : List ℕ} {r : Gathered} (h : Gathers s 0 "g=" n (mostGenerators n) r) (at : ℕ) where
   pub generators-off-form : begins (bytes "g=") (drop (r .used) s) ≡ true → r .count < mostGenerators n
       → generatorLines n at s ≡ stop (Refusal.Form (at + r .count))
   unfolding generatorLines
@@ -104,27 +105,28 @@ module _ (k : ℕ) (key : String) (n at : ℕ) (s : List ℕ) {ls : List Pauli} 
   unfolding logicalLines countedLogicals
   logicals-counted h = then-got (countedLogicals k at) read ∙ rw (le-ltb (length ls) k h)
 
-module _ {k : ℕ} {key : String} {n : ℕ} {s : List ℕ} {r : Gathered} (h : Gathers s key n k r) where
+module _ {k : ℕ} {key : String} {n : ℕ} {s : List ℕ} {from : ℕ} {r : Gathered} (h : Gathers s from key n k r) where
   -- a line is missing, or off its form
-  pub logicals-short : r .count < k → (at : ℕ) → logicalLines k key n at s ≡ stop (Refusal.Form (at + r .count))
+  pub logicals-short : r .count < k → (at : ℕ)
+      → logicalLines k key n at (drop from s) ≡ stop (Refusal.Form (at + r .count))
   unfolding logicalLines
   logicals-short few at = by-key (begins (bytes key) (drop (r .used) s)) refl
     where
       by-key : (b : Bool) → begins (bytes key) (drop (r .used) s) ≡ b
-          → logicalLines k key n at s ≡ stop (Refusal.Form (at + r .count))
+          → logicalLines k key n at (drop from s) ≡ stop (Refusal.Form (at + r .count))
       by-key true begun = then-stop (countedLogicals k at) (rows-off-form h begun few at)
       by-key false other =
           let m = rows-behind h other at in
-          logicals-missing k key n at s (m .gives) (omega (arith, m .counted))
+          logicals-missing k key n at (drop from s) (m .gives) (omega (arith, m .counted))
           ∙ ap (λ i. stop (Refusal.Form (at + i))) (m .counted)
 
   pub logicals-all : k ≤ r .count → (at : ℕ)
-      → Held rowRoom s (r .used) (r .count) (r .rows) (logicalLines k key n at s)
+      → Held rowRoom s (r .used) (r .count) (r .rows) (logicalLines k key n at (drop from s))
   logicals-all full at =
       let m = rows-all-read h full at in
       record {
         read = m .read;
         held = m .held;
         counted = m .counted;
-        gives = logicals-counted k key n at s (m .gives) (omega (arith, m .counted));
+        gives = logicals-counted k key n at (drop from s) (m .gives) (omega (arith, m .counted));
       }

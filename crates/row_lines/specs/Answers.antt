@@ -40,20 +40,19 @@ unfoldable pub rowsLeft : String → ℕ → ℕ → ℕ → ℕ → Reader (Lis
 rowsLeft key n most at count = rowsUpTo (most - count) key n (at + count)
 
 -- Rows that are read one after the other, into an array with room for so many. `R count` reads what is left behind the
--- first `count`.
-pub record Progress (room : ℕ) (R : ℕ → Reader (List Pauli)) (s : List ℕ) (rows : List Pauli)
+-- first `count`, from the byte `used` on.
+pub record Progress (room : ℕ) (R : ℕ → Reader (List Pauli)) (s : List ℕ) (from : ℕ) (rows : List Pauli)
     (count used : ℕ) : Type 0 where
   pub read : List Pauli
   pub held : rows ≡ filled room read
   pub counted : length read ≡ count
-  pub within : used ≤ length s
-  pub so-far : R 0 s ≡ prepended read (R count (drop used s))
+  pub so-far : R 0 (drop from s) ≡ prepended read (R count (drop used s))
 
--- Lines are read until one is off its form or so many are there, whichever line is the first.
-pub record Gathers (s : List ℕ) (key : String) (n most : ℕ) (r : Gathered) : Type 0 where
+-- Lines from a byte on are read until one is off its form or so many are there, whichever line is the first.
+pub record Gathers (s : List ℕ) (from : ℕ) (key : String) (n most : ℕ) (r : Gathered) : Type 0 where
   pub few : r .count ≤ most
   pub within : r .used ≤ length s
-  pub progress : (at : ℕ) → Progress rowRoom (rowsLeft key n most at) s (r .rows) (r .count) (r .used)
+  pub progress : (at : ℕ) → Progress rowRoom (rowsLeft key n most at) s from (r .rows) (r .count) (r .used)
   pub ended : r .count < most → (at : ℕ) → rowLine key n at (drop (r .used) s) ≡ stop (Refusal.Form at)
 
 -- The rows that a definition gives are in an array, so many of them, and what is left begins at a place.

@@ -39,23 +39,24 @@ fn row_line(s: &[u8], family: Family, n: usize) -> RowRead
     RowRead::Got { used, row }
 }
 
-// The rows of lines one after the other, how many they are and how many bytes they took.
+// The rows of lines one after the other, how many they are and the byte behind them.
 struct Gathered {
     used: usize,
     count: usize,
     rows: [Pauli; ROW_ROOM],
 }
 
-// The lines of a family's rows, until one is off its form or `most` are read.
-fn rows_up_to(s: &[u8], family: Family, most: usize, n: usize) -> Gathered
+// The lines of a family's rows from the byte `from` on, until one is off its form or `most` are read.
+fn rows_up_to(s: &[u8], from: usize, family: Family, most: usize, n: usize) -> Gathered
+    requires { ⌜ from ≤ length (now s) ⌝ }
     requires { ⌜ most ≤ rowRoom ⌝ }
     requires { ⌜ n ≤ mostQubits ⌝ }
-    ensures { λ r. ⌜ Gathers (now (s .entry)) (rowKey family) n most r ⌝ }
+    ensures { λ r. ⌜ Gathers (now (s .entry)) from (rowKey family) n most r ⌝ }
 {
     let one = Pauli::identity();
     let mut rows = [one; ROW_ROOM];
     let mut count = 0;
-    let mut used = 0;
+    let mut used = from;
     while count < most {
         let RowRead::Got { used: more, row } = row_line(&s[used..], family, n) else {
             return Gathered { used, count, rows };
@@ -106,7 +107,7 @@ pub fn generator_lines(s: &[u8], n: usize) -> Rows
         return Rows::refused(RowsAnswer::OffForm(0));
     }
     let most = code_record::most_generators(n);
-    let read = rows_up_to(s, Family::Generator, most, n);
+    let read = rows_up_to(s, 0, Family::Generator, most, n);
     let used = read.used;
     let count = read.count;
     if line_parts::begins_row(&s[used..], Family::Generator) {
@@ -156,22 +157,18 @@ pub fn logical_lines(s: &[u8], n: usize, r: usize) -> Logicals
         return Logicals::off_form(0);
     }
     let k = code_record::pair_count(n, r);
-    let xs = rows_up_to(s, Family::LogicalX, k, n);
-    let count = xs.count;
-    if count < k {
-        return Logicals::off_form(count);
+    let xs = rows_up_to(s, 0, Family::LogicalX, k, n);
+    if xs.count < k {
+        return Logicals::off_form(xs.count);
     }
-    let to_z = xs.used;
-    let zs = rows_up_to(&s[to_z..], Family::LogicalZ, k, n);
-    let count = zs.count;
-    if count < k {
-        return Logicals::off_form(k + count);
+    let zs = rows_up_to(s, xs.used, Family::LogicalZ, k, n);
+    if zs.count < k {
+        return Logicals::off_form(k + zs.count);
     }
-    let used = to_z + zs.used;
     let x = xs.rows;
     let z = zs.rows;
     Logicals {
-        answer: RowsAnswer::Read { used },
+        answer: RowsAnswer::Read { used: zs.used },
         x,
         z,
     }

@@ -35,8 +35,8 @@ read c = c .rows-up-to .result
 most : (c : tie.After-rows-up-to) → c .before .most-generators .result ≡ mostGenerators (n c)
 most c = c .before .most-generators .ensures
 
-gathers : (c : tie.After-rows-up-to) → Gathers (s c) "g=" (n c) (mostGenerators (n c)) (read c)
-gathers c = subst (λ m. Gathers (s c) "g=" (n c) m (read c)) (most c) (c .rows-up-to .ensures)
+gathers : (c : tie.After-rows-up-to) → Gathers (s c) 0 "g=" (n c) (mostGenerators (n c)) (read c)
+gathers c = subst (λ m. Gathers (s c) 0 "g=" (n c) m (read c)) (most c) (c .rows-up-to .ensures)
 
 few : (c : tie.After-rows-up-to) → read c .count ≤ rowRoom
 unfolding mostGenerators
@@ -67,7 +67,7 @@ returns c = (
 
 rows-up-to-requires : tie.Need-rows-up-to-requires
 unfolding mostGenerators
-rows-up-to-requires c κs = let most = c .most-generators .ensures in (omega arith, search needs)
+rows-up-to-requires c κs = let most = c .most-generators .ensures in (search needs, (omega arith, search needs))
 
 returns-2 : tie.Need-returns-2
 returns-2 c =

@@ -1,16 +1,12 @@
 -- x, then z; each that is refused ends it.
 use mathlib.Core.List.{List}
-use mathlib.Core.Path.{_≡_, refl, ap, sym, subst, _∙_}
+use mathlib.Core.Path.{_≡_, refl, ap, sym, _∙_}
 use Prim.Native.Nat.{ℕ, _+_, _≤_}
-use native.Mathlib.Nat.{lt-of-le-of-lt}
 use native.Mathlib.Omega.{arith}
 use borrow.Author.Needs.{needs}
-use lib.ListN.{length, drop, length-drop}
 use Rattle.code_record.specs.Record.{rowRoom, pairCount}
-use Rattle.sheet.proofs.Parts.{tail-of}
 use Rattle.lines.specs.Answers.{withinQubits}
 use Rattle.lines.proofs.Lines.{few-qubits, many-qubits}
-use Rattle.row_lines.specs.declared.Gathered.{Gathered}
 use Rattle.row_lines.specs.Answers.{Gathers, logicalsAnswer, pairLines}
 use Rattle.row_lines.proofs.Counted.{logicals-short, logicals-all}
 use Rattle.row_lines.proofs.Answered.{logicals-before, logicals-none, x-refused, z-refused, pairs-given}
@@ -41,27 +37,13 @@ within c at =
     few-qubits (n c) at (pairLines (pairCount (n c) (start c .args .r)) (n c) at) (s c) (c .before .before .if1 .left)
     ∙ ap (λ m. pairLines m (n c) at (s c)) (sym (c .before .pair-count .ensures))
 
-abbrev x : tie.After-rows-up-to → Gathered
-x c = c .rows-up-to .result
-
--- ---- z
-
+-- z stands behind x
 abbrev first : tie.After-rows-up-to2 → tie.After-rows-up-to
 first c = c .before .before .before
 
-abbrev z : tie.After-rows-up-to2 → Gathered
-z c = c .rows-up-to2 .result
-
 z-gathers : (c : tie.After-rows-up-to2)
-    → Gathers (drop (x (first c) .used) (s (first c))) "z=" (n (first c)) (k (first c)) (z c)
-z-gathers c =
-    subst (λ t. Gathers t "z=" (n (first c)) (k (first c)) (z c)) (tail-of (x (first c) .used) (s (first c)))
-    (c .rows-up-to2 .ensures)
-
-both-within : (c : tie.After-rows-up-to2) → x (first c) .used + z c .used ≤ length (s (first c))
-both-within c =
-    let from-x = length-drop (x (first c) .used) (s (first c)) in
-    omega (arith, first c .rows-up-to .ensures .within, z-gathers c .within)
+    → Gathers (s (first c)) (first c .rows-up-to .result .used) "z=" (n (first c)) (k (first c)) (c .rows-up-to2 .result)
+z-gathers c = c .rows-up-to2 .ensures
 
 -- ---- the needs
 
@@ -72,11 +54,11 @@ returns c = (
 )
 
 rows-up-to-requires : tie.Need-rows-up-to-requires
-rows-up-to-requires c κs = (few c, search needs)
+rows-up-to-requires c κs = (search needs, (few c, search needs))
 
 returns-2 : tie.Need-returns-2
 returns-2 c =
-    let line = c .before .before in (
+    let line = c .before .before .before in (
       logicals-before (c .off-form2 .ensures) _ (omega (arith, line .rows-up-to .ensures .few, few (line .before))),
       λ at. logicals-none (c .off-form2 .ensures) _ at refl
           (within line at ∙ x-refused (k line) (n line) at (s line)
@@ -85,37 +67,35 @@ returns-2 c =
 
 rows-up-to-requires-2 : tie.Need-rows-up-to-requires-2
 rows-up-to-requires-2 c κs =
-    let begin = c .before .before in (few (begin .before), begin .before .before .if1 .left)
+    let begin = c .before .before in
+    (begin .rows-up-to .ensures .within, (few (begin .before), begin .before .before .if1 .left))
 
 add-off-form : tie.Need-add-off-form
-add-off-form c = let line = c .before in omega (arith, line .rows-up-to2 .ensures .few, few (first line .before))
+add-off-form c =
+    let line = c .before .before .before in
+    omega (arith, line .rows-up-to2 .ensures .few, few (first line .before))
 
 returns-3 : tie.Need-returns-3
 returns-3 c =
-    let line = c .before .before in
+    let line = c .before .before .before .before in
     let begin = first line in (
       logicals-before (c .off-form3 .ensures) _ (omega (arith, line .rows-up-to2 .ensures .few, few (begin .before))),
       λ at. logicals-none (c .off-form3 .ensures) _ at (omega arith)
           (within begin at ∙ z-refused (k begin) (n begin) at (s begin)
-          (logicals-all (begin .rows-up-to .ensures) (line .before .before .if2 .left) at)
-          (logicals-short (z-gathers line) (c .before .if3 .taken) (at + k begin))),
+          (logicals-all (begin .rows-up-to .ensures) (line .before .if2 .left) at)
+          (logicals-short (z-gathers line) (c .before .before .if3 .taken) (at + k begin))),
     )
-
-add-used : tie.Need-add-used
-add-used c =
-    let line = c .before .before in
-    record { fits = lt-of-le-of-lt (both-within line) (start (first line) .good .0 .0) }
 
 returns-4 : tie.Need-returns-4
 returns-4 c =
-    let all = c .before .before .before in
-    let line = all .before in
+    let all = c .before .before in
+    let line = all .before .before in
     let begin = first line in (
       omega arith,
       λ at. pairs-given (k begin) (n begin) at (s begin)
-          (logicals-all (begin .rows-up-to .ensures) (line .before .before .if2 .left) at)
+          (logicals-all (begin .rows-up-to .ensures) (line .before .if2 .left) at)
           (logicals-all (z-gathers line) (all .if3 .left) (at + k begin))
-          (both-within line)
+          (line .rows-up-to2 .ensures .within)
           ∙ ap (logicalsAnswer (s begin)) (sym (within begin at)),
     )
 
@@ -129,12 +109,8 @@ logical-lines-spec =
     rows-up-to-requires
     (λ c κs. search needs)
     returns-2
-    (λ c. search needs)
-    (λ c. search needs)
-    (λ c. search needs)
     rows-up-to-requires-2
     add-off-form
     (λ c κs. search needs)
     returns-3
-    add-used
     returns-4)
