@@ -24,8 +24,8 @@ use Rattle.row_lines.proofs.RowsLeft.{rows-all, rows-full, rows-ended, 
 module _ {s : List ℕ} {from : ℕ} {key : String} {n most : ℕ} {r : Gathered}
     (h : Gathers s from key n most r) where
   -- nothing is left
-  ended : (at : ℕ) → rowsLeft key n most at (r .count) (drop (r .used) s) ≡ got [] (drop (r .used) s)
-      → Held rowRoom s (r .used) (r .count) (r .rows) (rowsUpTo most key n at (drop from s))
+  ended : (at : ℕ) → rowsLeft key n most at (r .count) (drop (r .end) s) ≡ got [] (drop (r .end) s)
+      → Held rowRoom s (r .end) (r .count) (r .rows) (rowsUpTo most key n at (drop from s))
   ended at e =
       let p = h .progress at in
       record {
@@ -36,19 +36,19 @@ module _ {s : List ℕ} {from : ℕ} {key : String} {n most : ℕ} {r : Gathered
       }
 
   pub rows-all-read : most ≤ r .count → (at : ℕ)
-      → Held rowRoom s (r .used) (r .count) (r .rows) (rowsUpTo most key n at (drop from s))
-  rows-all-read all at = ended at (rows-full key n most at (r .count) (drop (r .used) s) all)
+      → Held rowRoom s (r .end) (r .count) (r .rows) (rowsUpTo most key n at (drop from s))
+  rows-all-read all at = ended at (rows-full key n most at (r .count) (drop (r .end) s) all)
 
-  pub rows-behind : begins (bytes key) (drop (r .used) s) ≡ false → (at : ℕ)
-      → Held rowRoom s (r .used) (r .count) (r .rows) (rowsUpTo most key n at (drop from s))
-  rows-behind other at = ended at (rows-ended key n most at (r .count) (drop (r .used) s) other)
+  pub rows-behind : begins (bytes key) (drop (r .end) s) ≡ false → (at : ℕ)
+      → Held rowRoom s (r .end) (r .count) (r .rows) (rowsUpTo most key n at (drop from s))
+  rows-behind other at = ended at (rows-ended key n most at (r .count) (drop (r .end) s) other)
 
-  pub rows-off-form : begins (bytes key) (drop (r .used) s) ≡ true → r .count < most → (at : ℕ)
+  pub rows-off-form : begins (bytes key) (drop (r .end) s) ≡ true → r .count < most → (at : ℕ)
       → rowsUpTo most key n at (drop from s) ≡ stop (Refusal.Form (at + r .count))
   rows-off-form begun more at =
       sym (rows-all key n most at (drop from s))
       ∙ progress-refused rowRoom _ s from (h .progress at)
-      (rows-refused key n most at (r .count) (drop (r .used) s) more begun (h .ended more (at + r .count)))
+      (rows-refused key n most at (r .count) (drop (r .end) s) more begun (h .ended more (at + r .count)))
 
 -- ---- g lines
 
@@ -59,19 +59,19 @@ module _ (n at : ℕ) (s : List ℕ) where
   counted e = then-got (countedGenerators at) e
 
 module _ {n : ℕ} {s : List ℕ} {r : Gathered} (h : Gathers s 0 "g=" n (mostGenerators n) r) (at : ℕ) where
-  pub generators-off-form : begins (bytes "g=") (drop (r .used) s) ≡ true → r .count < mostGenerators n
+  pub generators-off-form : begins (bytes "g=") (drop (r .end) s) ≡ true → r .count < mostGenerators n
       → generatorLines n at s ≡ stop (Refusal.Form (at + r .count))
   unfolding generatorLines
   generators-off-form begun more = then-stop (countedGenerators at) (rows-off-form h begun more at)
 
-  pub generators-too-many : begins (bytes "g=") (drop (r .used) s) ≡ true → mostGenerators n ≤ r .count
+  pub generators-too-many : begins (bytes "g=") (drop (r .end) s) ≡ true → mostGenerators n ≤ r .count
       → generatorLines n at s ≡ stop (Refusal.GeneratorCount (at + r .count))
   unfolding countedGenerators
   generators-too-many begun all =
       let m = rows-all-read h all at in
       counted n at s (m .gives) ∙ rw (begun, or-true) (ap (λ i. stop (Refusal.GeneratorCount (at + i))) (m .counted))
 
-  pub generators-none : begins (bytes "g=") (drop (r .used) s) ≡ false → r .count ≡ 0
+  pub generators-none : begins (bytes "g=") (drop (r .end) s) ≡ false → r .count ≡ 0
       → generatorLines n at s ≡ stop (Refusal.GeneratorCount (at + 0))
   unfolding countedGenerators
   generators-none other none =
@@ -80,8 +80,8 @@ module _ {n : ℕ} {s : List ℕ} {r : Gathered} (h : Gathers s 0 "g=" n (mostGe
       ∙ rw (eq-eqb (length (m .read)) 0 (m .counted ∙ none))
       (ap (λ i. stop (Refusal.GeneratorCount (at + i))) (m .counted ∙ none))
 
-  pub generators-read : begins (bytes "g=") (drop (r .used) s) ≡ false → (r .count ≡ 0 → ⊥)
-      → Held rowRoom s (r .used) (r .count) (r .rows) (generatorLines n at s)
+  pub generators-read : begins (bytes "g=") (drop (r .end) s) ≡ false → (r .count ≡ 0 → ⊥)
+      → Held rowRoom s (r .end) (r .count) (r .rows) (generatorLines n at s)
   unfolding countedGenerators
   generators-read other some =
       let m = rows-behind h other at in
@@ -110,9 +110,9 @@ module _ {k : ℕ} {key : String} {n : ℕ} {s : List ℕ} {from : ℕ} {r : Gat
   pub logicals-short : r .count < k → (at : ℕ)
       → logicalLines k key n at (drop from s) ≡ stop (Refusal.Form (at + r .count))
   unfolding logicalLines
-  logicals-short few at = by-key (begins (bytes key) (drop (r .used) s)) refl
+  logicals-short few at = by-key (begins (bytes key) (drop (r .end) s)) refl
     where
-      by-key : (b : Bool) → begins (bytes key) (drop (r .used) s) ≡ b
+      by-key : (b : Bool) → begins (bytes key) (drop (r .end) s) ≡ b
           → logicalLines k key n at (drop from s) ≡ stop (Refusal.Form (at + r .count))
       by-key true begun = then-stop (countedLogicals k at) (rows-off-form h begun few at)
       by-key false other =
@@ -121,7 +121,7 @@ module _ {k : ℕ} {key : String} {n : ℕ} {s : List ℕ} {from : ℕ} {r : Gat
           ∙ ap (λ i. stop (Refusal.Form (at + i))) (m .counted)
 
   pub logicals-all : k ≤ r .count → (at : ℕ)
-      → Held rowRoom s (r .used) (r .count) (r .rows) (logicalLines k key n at (drop from s))
+      → Held rowRoom s (r .end) (r .count) (r .rows) (logicalLines k key n at (drop from s))
   logicals-all full at =
       let m = rows-all-read h full at in
       record {

@@ -51,9 +51,9 @@ pub record Progress (room : ℕ) (R : ℕ → Reader (List Pauli)) (s : List ℕ
 -- Lines from a byte on are read until one is off its form or so many are there, whichever line is the first.
 pub record Gathers (s : List ℕ) (from : ℕ) (key : String) (n most : ℕ) (r : Gathered) : Type 0 where
   pub few : r .count ≤ most
-  pub within : r .used ≤ length s
-  pub progress : (at : ℕ) → Progress rowRoom (rowsLeft key n most at) s from (r .rows) (r .count) (r .used)
-  pub ended : r .count < most → (at : ℕ) → rowLine key n at (drop (r .used) s) ≡ stop (Refusal.Form at)
+  pub within : r .end ≤ length s
+  pub progress : (at : ℕ) → Progress rowRoom (rowsLeft key n most at) s from (r .rows) (r .count) (r .end)
+  pub ended : r .count < most → (at : ℕ) → rowLine key n at (drop (r .end) s) ≡ stop (Refusal.Form at)
 
 -- The rows that a definition gives are in an array, so many of them, and what is left begins at a place.
 pub record Held (room : ℕ) (s : List ℕ) (used count : ℕ) (rows : List Pauli) (definition : Parsed (List Pauli))

@@ -41,7 +41,7 @@ fn row_line(s: &[u8], family: Family, n: usize) -> RowRead
 
 // The rows of lines one after the other, how many they are and the byte behind them.
 struct Gathered {
-    used: usize,
+    end: usize,
     count: usize,
     rows: [Pauli; ROW_ROOM],
 }
@@ -56,16 +56,16 @@ fn rows_up_to(s: &[u8], from: usize, family: Family, most: usize, n: usize) -> G
     let one = Pauli::identity();
     let mut rows = [one; ROW_ROOM];
     let mut count = 0;
-    let mut used = from;
+    let mut end = from;
     while count < most {
-        let RowRead::Got { used: more, row } = row_line(&s[used..], family, n) else {
-            return Gathered { used, count, rows };
+        let RowRead::Got { used: more, row } = row_line(&s[end..], family, n) else {
+            return Gathered { end, count, rows };
         };
         rows[count] = row;
         count += 1;
-        used += more;
+        end += more;
     }
-    Gathered { used, count, rows }
+    Gathered { end, count, rows }
 }
 
 // Lines of rows were read, and took so many bytes; or one is refused, behind so many that were read.
@@ -108,7 +108,7 @@ pub fn generator_lines(s: &[u8], n: usize) -> Rows
     }
     let most = code_record::most_generators(n);
     let read = rows_up_to(s, 0, Family::Generator, most, n);
-    let used = read.used;
+    let used = read.end;
     let count = read.count;
     if line_parts::begins_row(&s[used..], Family::Generator) {
         if count < most {
@@ -161,14 +161,14 @@ pub fn logical_lines(s: &[u8], n: usize, r: usize) -> Logicals
     if xs.count < k {
         return Logicals::off_form(xs.count);
     }
-    let zs = rows_up_to(s, xs.used, Family::LogicalZ, k, n);
+    let zs = rows_up_to(s, xs.end, Family::LogicalZ, k, n);
     if zs.count < k {
         return Logicals::off_form(k + zs.count);
     }
     let x = xs.rows;
     let z = zs.rows;
     Logicals {
-        answer: RowsAnswer::Read { used: zs.used },
+        answer: RowsAnswer::Read { used: zs.end },
         x,
         z,
     }

@@ -52,9 +52,9 @@ abbrev found : tie.After-begins-row → tie.After-rows-up-to
 found c = c .before .before
 
 more : (c : tie.After-begins-row)
-    → begins (bytes "g=") (drop (read (found c) .used) (s (found c))) ≡ c .begins-row .result
+    → begins (bytes "g=") (drop (read (found c) .end) (s (found c))) ≡ c .begins-row .result
 more c =
-    ap (begins (bytes "g=")) (sym (tail-of (read (found c) .used) (s (found c)))) ∙ sym (c .begins-row .ensures)
+    ap (begins (bytes "g=")) (sym (tail-of (read (found c) .end) (s (found c)))) ∙ sym (c .begins-row .ensures)
 
 -- ---- the needs
 

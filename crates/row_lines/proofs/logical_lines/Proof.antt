@@ -42,7 +42,7 @@ abbrev first : tie.After-rows-up-to2 → tie.After-rows-up-to
 first c = c .before .before .before
 
 z-gathers : (c : tie.After-rows-up-to2)
-    → Gathers (s (first c)) (first c .rows-up-to .result .used) "z=" (n (first c)) (k (first c)) (c .rows-up-to2 .result)
+    → Gathers (s (first c)) (first c .rows-up-to .result .end) "z=" (n (first c)) (k (first c)) (c .rows-up-to2 .result)
 z-gathers c = c .rows-up-to2 .ensures
 
 -- ---- the needs
