@@ -12,8 +12,10 @@ use Rattle.pauli.specs.Product.{identity, samePauli}
 use Rattle.letters.specs.declared.Sign.the-variants.{Plus}
 use Rattle.pauli.specs.Letters.{hasSign, isSignedRow}
 use Rattle.code_record.specs.declared.Code.{Code}
+use Rattle.code_record.specs.declared.LinesReading.{LinesReading}
 use Rattle.refusals.specs.declared.Family.{Family}
 use Rattle.refusals.specs.declared.Family.the-variants.{Generator, LogicalX, LogicalZ}
+use Rattle.refusals.specs.declared.Lines.{Lines}
 use Rattle.refusals.specs.declared.Refusal.{Refusal}
 use Rattle.refusals.specs.Refusals.{refuseIf}
 
@@ -101,6 +103,10 @@ emptyCode = record {
   z = replicate rowRoom identity;
   w = identity;
 }
+
+-- A refused reading: the empty record stands beside the refusal, and no line of w.
+abbrev pub emptyBeside : Lines → LinesReading
+emptyBeside answer = record { answer = answer; «claim_at» = 0; code = emptyCode }
 
 -- A record as a machine holds it: each array has its room.
 pub record Sized (c : Code) : Type 0 where

@@ -8,7 +8,7 @@ ghost use Prim.Native.Nat.{_≤_};
 ghost use lib.ListN.{getD};
 ghost use Rattle.pauli.specs.Product.{identity, samePauli};
 ghost use Rattle.code_record.specs.Record.{mostQubits, pairCount, mostGenerators, generatorsAt};
-ghost use Rattle.code_record.specs.Record.{rowsOf, emptyCode};
+ghost use Rattle.code_record.specs.Record.{rowsOf, emptyCode, emptyBeside};
 ghost use Rattle.code_record.specs.Record.{between, onQubits, isRow, isClaim, areRows, withinLimits};
 
 // How many rows of each family a record has room for.
@@ -188,4 +188,17 @@ pub struct LinesReading {
     pub answer: Lines,
     pub claim_at: usize,
     pub code: Code,
+}
+
+impl LinesReading {
+    // A refused reading: the empty record stands beside the refusal.
+    pub fn refused(answer: Lines) -> LinesReading
+        ensures { λ r. ⌜ r ≡ emptyBeside answer ⌝ }
+    {
+        LinesReading {
+            answer,
+            claim_at: 0,
+            code: Code::empty(),
+        }
+    }
 }

@@ -7,12 +7,12 @@ use Rattle.pauli.specs.declared.Pauli.{Pauli}
 use Rattle.refusals.specs.declared.Lines.{Lines}
 use Rattle.code_record.specs.declared.LinesReading.{LinesReading}
 use Rattle.refusals.specs.declared.Refusal.{Refusal}
-use Rattle.code_record.specs.Record.{pairCount, codeOf}
+use Rattle.code_record.specs.Record.{pairCount, codeOf, emptyBeside}
 use Rattle.sheet.specs.Reader.{Parsed, Reader, SheetRead, got, stop, done, continue, answered}
 use Rattle.sheet.specs.Reader.{logicalLines, claimLine, linesAfter}
 use Rattle.sheet.proofs.Reading.{bytes-used, then-got}
 use Rattle.row_lines.specs.Answers.{pairLines}
-use Rattle.ordered_lines.specs.Answers.{emptyBeside, withClaim, countedRows, filledLogicals}
+use Rattle.ordered_lines.specs.Answers.{withClaim, countedRows, filledLogicals}
 
 -- ---- the lines behind the g lines, with k pairs of logicals
 

@@ -6,7 +6,7 @@ use lib.ListN.{length, drop}
 use Rattle.pauli.specs.declared.Pauli.{Pauli}
 use Rattle.refusals.specs.declared.Lines.{Lines}
 use Rattle.code_record.specs.declared.LinesReading.{LinesReading}
-use Rattle.code_record.specs.Record.{rowRoom, firstGeneratorAt, filled, codeOf, emptyCode}
+use Rattle.code_record.specs.Record.{rowRoom, firstGeneratorAt, filled, codeOf}
 use Rattle.sheet.specs.Reader.{Parsed, Reader, SheetRead, got, stop, done, _andThen_, answered}
 use Rattle.sheet.specs.Reader.{distanceLine, generatorLines, claimLine, linesAfter}
 use Rattle.row_lines.specs.declared.Rows.{Rows}
@@ -26,10 +26,6 @@ parsed s (Lines.Refused refusal) value = stop refusal
 pub record Reads {A : Type 0} (s : List ℕ) (answer : Lines) (value : A) (definition : Parsed A) : Type 0 where
   pub within : usedIn answer ≤ length s
   pub parses : parsed s answer value ≡ definition
-
--- A refused reading: the empty record stands beside the refusal.
-abbrev pub emptyBeside : Lines → LinesReading
-emptyBeside answer = record { answer = answer; «claim_at» = 0; code = emptyCode }
 
 -- ---- the readers of what is left from a line on
 

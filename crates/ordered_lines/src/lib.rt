@@ -14,19 +14,8 @@ ghost use lib.ListN.{length};
 ghost use Rattle.code_record.specs.Record.{rowRoom, mostQubits, firstGeneratorAt};
 ghost use Rattle.sheet.specs.Reader.{linesAfter, sheetLines, answered};
 ghost use Rattle.row_lines.specs.Answers.{before, linesAt};
-ghost use Rattle.ordered_lines.specs.Answers.{emptyBeside, withClaim, linesFromG, linesFromD};
+ghost use Rattle.ordered_lines.specs.Answers.{withClaim, linesFromG, linesFromD};
 ghost use Rattle.ordered_lines.specs.Answers.{ReadsOn, ReadsAfter, ReadsClaim};
-
-// A refused reading: the empty record stands beside the refusal.
-pub fn refused(answer: Lines) -> LinesReading
-    ensures { λ r. ⌜ r ≡ emptyBeside answer ⌝ }
-{
-    LinesReading {
-        answer,
-        claim_at: 0,
-        code: Code::empty(),
-    }
-}
 
 // The answer for lines of rows, where the first of them is the line `at` of the sheet.
 fn lines_at(answer: RowsAnswer, at: usize) -> Lines
@@ -58,7 +47,7 @@ fn claim_after(
     let claim = row_reader::claim_line(&s[from..], n, at);
     let answer = claim.answer;
     let Lines::Read { used } = answer else {
-        return refused(answer);
+        return LinesReading::refused(answer);
     };
     let g = generators.rows;
     let x = logicals.x;
@@ -98,7 +87,7 @@ fn lines_after(
     let read = logicals.answer;
     let answer = lines_at(read, at);
     let Lines::Read { used } = answer else {
-        return refused(answer);
+        return LinesReading::refused(answer);
     };
     let claim_at = at + 2 * code_record::pair_count(n, r);
     claim_after(s, from + used, n, d, claim_at, generators, logicals)
@@ -114,7 +103,7 @@ fn lines_from_g(s: &[u8], from: usize, n: usize, d: usize) -> LinesReading
     let read = generators.answer;
     let answer = lines_at(read, FIRST_GENERATOR_AT);
     let Lines::Read { used } = answer else {
-        return refused(answer);
+        return LinesReading::refused(answer);
     };
     let at = FIRST_GENERATOR_AT + generators.count;
     lines_after(s, from + used, n, d, at, generators)
@@ -129,7 +118,7 @@ fn lines_from_d(s: &[u8], from: usize, n: usize) -> LinesReading
     let distance = number_reader::distance_line(&s[from..]);
     let answer = distance.answer;
     let Lines::Read { used } = answer else {
-        return refused(answer);
+        return LinesReading::refused(answer);
     };
     lines_from_g(s, from + used, n, distance.number)
 }
@@ -141,7 +130,7 @@ pub fn sheet_lines(s: &[u8]) -> LinesReading
     let qubits = number_reader::qubit_line(s);
     let answer = qubits.answer;
     let Lines::Read { used } = answer else {
-        return refused(answer);
+        return LinesReading::refused(answer);
     };
     lines_from_d(s, used, qubits.number)
 }

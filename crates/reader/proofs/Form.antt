@@ -7,11 +7,10 @@ use lib.ListN.{length}
 use Rattle.refusals.specs.declared.Lines.{Lines}
 use Rattle.code_record.specs.declared.LinesReading.{LinesReading}
 use Rattle.refusals.specs.declared.Refusal.{Refusal}
-use Rattle.code_record.specs.Record.{pairCount, logicalCount, generatorsAt, logicalsAt, claimAt}
+use Rattle.code_record.specs.Record.{pairCount, logicalCount, generatorsAt, logicalsAt, claimAt, emptyBeside}
 use Rattle.code_record.proofs.Limits.{limits}
 use Rattle.sheet.specs.Reader.{Parsed, SheetRead, got, stop, continue, nothingBehind, answered}
 use Rattle.sheet.specs.Statements.{ReadIsLawful}
-use Rattle.ordered_lines.specs.Answers.{emptyBeside}
 
 -- The line of w is one of few.
 pub claim-near : (s : List ℕ) (p : Parsed SheetRead)

@@ -12,7 +12,7 @@ pub fn read_lines(s: &[u8]) -> LinesReading
     ensures { λ r. ⌜ r ≡ linesReading (now (s .entry)) ⌝ }
 {
     if LONGEST_INPUT < s.len() {
-        return ordered_lines::refused(Lines::Refused(Refusal::TooLong));
+        return LinesReading::refused(Lines::Refused(Refusal::TooLong));
     }
     ordered_lines::sheet_lines(s)
 }
@@ -27,7 +27,7 @@ pub fn read_form(s: &[u8]) -> LinesReading
         return reading;
     };
     if used < s.len() {
-        return ordered_lines::refused(Lines::Refused(Refusal::Form(reading.claim_at + 1)));
+        return LinesReading::refused(Lines::Refused(Refusal::Form(reading.claim_at + 1)));
     }
     reading
 }

@@ -3,7 +3,6 @@ use mathlib.Core.List.{List}
 use mathlib.Core.Path.{_≡_, ap, sym, subst, _∙_}
 use Prim.Native.Nat.{ℕ, _+_, _≤_}
 use lib.ListN.{length, drop, replicate}
-use lib.Seq.{drop-drop}
 use Rattle.pauli.specs.declared.Pauli.{Pauli}
 use Rattle.pauli.specs.Product.{identity}
 use Rattle.refusals.specs.declared.Lines.{Lines}
@@ -75,13 +74,13 @@ module _ (k n at : ℕ) (s : List ℕ) where
         → pairLines k n at s ≡ stop refusal
     z-refused e = to-z ∙ then-stop (λ zs. done (x .read, zs)) e
 
-    pub pairs-given : {more z-count : ℕ} {z-rows : List Pauli}
-        → Held rowRoom (drop used s) more z-count z-rows (logicalLines k "z=" n (at + k) (drop used s))
-        → used + more ≤ length s
-        → (Lines.Read (used + more), x-rows, z-rows) ≡ logicalsAnswer s (pairLines k n at s)
+    pub pairs-given : {end z-count : ℕ} {z-rows : List Pauli}
+        → Held rowRoom s end z-count z-rows (logicalLines k "z=" n (at + k) (drop used s))
+        → end ≤ length s
+        → (Lines.Read end, x-rows, z-rows) ≡ logicalsAnswer s (pairLines k n at s)
     unfolding logicalsAnswer linesOf valueOr done
-    pairs-given {more} z within =
-        let whole : pairLines k n at s ≡ got (x .read, z .read) (drop (used + more) s) =
-        to-z ∙ then-got (λ zs. done (x .read, zs)) (z .gives) ∙ ap (got (x .read, z .read)) (drop-drop more used s) in
-        (λ i. (Lines.Read (bytes-used s (used + more) within i), x .held i, z .held i))
+    pairs-given {end} z within =
+        let whole : pairLines k n at s ≡ got (x .read, z .read) (drop end s) =
+        to-z ∙ then-got (λ zs. done (x .read, zs)) (z .gives) in
+        (λ i. (Lines.Read (bytes-used s end within i), x .held i, z .held i))
         ∙ ap (logicalsAnswer s) (sym whole)

@@ -7,12 +7,12 @@ use refusals::Family;
 use refusals::Lines;
 ghost use mathlib.Core.Path.{_≡_};
 ghost use Prim.Native.Nat.{ℕ, _*_, _≤_};
-ghost use lib.ListN.{length, take};
+ghost use lib.ListN.{length};
 ghost use Rattle.code_record.specs.Record.{rowRoom, mostQubits, pairCount};
 ghost use Rattle.refusals.specs.Families.{rowKey};
 ghost use Rattle.sheet.specs.Reader.{rowLine, generatorLines};
 ghost use Rattle.row_reader.specs.Answers.{withinQubits};
-ghost use Rattle.row_lines.specs.Answers.{bytesOf, rowAt, Gathers, GathersLogicals, before, AnswersRows};
+ghost use Rattle.row_lines.specs.Answers.{bytesOf, rowAt, Gathers, before, AnswersRows};
 ghost use Rattle.row_lines.specs.Answers.{AnswersLogicals, noRows, noLogicals, pairLines};
 
 // What a line is read as: a row, and how many bytes the line took.
@@ -39,32 +39,33 @@ fn row_line(s: &[u8], family: Family, n: usize) -> RowRead
     RowRead::Got { used, row }
 }
 
-// The rows of lines one after the other, how many they are and how many bytes they took.
+// The rows of lines one after the other, how many they are and the byte behind them.
 struct Gathered {
-    used: usize,
+    end: usize,
     count: usize,
     rows: [Pauli; ROW_ROOM],
 }
 
-// The lines of a family's rows, until one is off its form or `most` are read.
-fn rows_up_to(s: &[u8], family: Family, most: usize, n: usize) -> Gathered
+// The lines of a family's rows from the byte `from` on, until one is off its form or `most` are read.
+fn rows_up_to(s: &[u8], from: usize, family: Family, most: usize, n: usize) -> Gathered
+    requires { ⌜ from ≤ length (now s) ⌝ }
     requires { ⌜ most ≤ rowRoom ⌝ }
     requires { ⌜ n ≤ mostQubits ⌝ }
-    ensures { λ r. ⌜ Gathers (now (s .entry)) (rowKey family) n most r ⌝ }
+    ensures { λ r. ⌜ Gathers (now (s .entry)) from (rowKey family) n most r ⌝ }
 {
     let one = Pauli::identity();
     let mut rows = [one; ROW_ROOM];
     let mut count = 0;
-    let mut used = 0;
+    let mut end = from;
     while count < most {
-        let RowRead::Got { used: more, row } = row_line(&s[used..], family, n) else {
-            return Gathered { used, count, rows };
+        let RowRead::Got { used: more, row } = row_line(&s[end..], family, n) else {
+            return Gathered { end, count, rows };
         };
         rows[count] = row;
         count += 1;
-        used += more;
+        end += more;
     }
-    Gathered { used, count, rows }
+    Gathered { end, count, rows }
 }
 
 // Lines of rows were read, and took so many bytes; or one is refused, behind so many that were read.
@@ -106,8 +107,8 @@ pub fn generator_lines(s: &[u8], n: usize) -> Rows
         return Rows::refused(RowsAnswer::OffForm(0));
     }
     let most = code_record::most_generators(n);
-    let read = rows_up_to(s, Family::Generator, most, n);
-    let used = read.used;
+    let read = rows_up_to(s, 0, Family::Generator, most, n);
+    let used = read.end;
     let count = read.count;
     if line_parts::begins_row(&s[used..], Family::Generator) {
         if count < most {
@@ -123,41 +124,6 @@ pub fn generator_lines(s: &[u8], n: usize) -> Rows
         answer: RowsAnswer::Read { used },
         count,
         rows,
-    }
-}
-
-// The rows of an array that a record's array of logicals has room for.
-fn logical_rows(rows: [Pauli; ROW_ROOM]) -> [Pauli; ROW_ROOM]
-    ensures { λ r. ⌜ r ≡ take rowRoom rows ⌝ }
-{
-    let one = Pauli::identity();
-    let mut logicals = [one; ROW_ROOM];
-    for place in 0..ROW_ROOM {
-        let row = rows[place];
-        logicals[place] = row;
-    }
-    logicals
-}
-
-// The logicals of one kind, as rows are gathered.
-struct LogicalRows {
-    used: usize,
-    count: usize,
-    rows: [Pauli; ROW_ROOM],
-}
-
-// The lines of the logicals of one kind, until one is off its form or k are read.
-fn logicals_of(s: &[u8], family: Family, n: usize, k: usize) -> LogicalRows
-    requires { ⌜ n ≤ mostQubits ⌝ }
-    requires { ⌜ k ≤ rowRoom ⌝ }
-    ensures { λ r. ⌜ GathersLogicals (now (s .entry)) (rowKey family) n k r ⌝ }
-{
-    let read = rows_up_to(s, family, k, n);
-    let gathered = read.rows;
-    LogicalRows {
-        used: read.used,
-        count: read.count,
-        rows: logical_rows(gathered),
     }
 }
 
@@ -191,22 +157,18 @@ pub fn logical_lines(s: &[u8], n: usize, r: usize) -> Logicals
         return Logicals::off_form(0);
     }
     let k = code_record::pair_count(n, r);
-    let xs = logicals_of(s, Family::LogicalX, n, k);
-    let count = xs.count;
-    if count < k {
-        return Logicals::off_form(count);
+    let xs = rows_up_to(s, 0, Family::LogicalX, k, n);
+    if xs.count < k {
+        return Logicals::off_form(xs.count);
     }
-    let to_z = xs.used;
-    let zs = logicals_of(&s[to_z..], Family::LogicalZ, n, k);
-    let count = zs.count;
-    if count < k {
-        return Logicals::off_form(k + count);
+    let zs = rows_up_to(s, xs.end, Family::LogicalZ, k, n);
+    if zs.count < k {
+        return Logicals::off_form(k + zs.count);
     }
-    let used = to_z + zs.used;
     let x = xs.rows;
     let z = zs.rows;
     Logicals {
-        answer: RowsAnswer::Read { used },
+        answer: RowsAnswer::Read { used: zs.end },
         x,
         z,
     }

@@ -35,8 +35,8 @@ read c = c .rows-up-to .result
 most : (c : tie.After-rows-up-to) → c .before .most-generators .result ≡ mostGenerators (n c)
 most c = c .before .most-generators .ensures
 
-gathers : (c : tie.After-rows-up-to) → Gathers (s c) "g=" (n c) (mostGenerators (n c)) (read c)
-gathers c = subst (λ m. Gathers (s c) "g=" (n c) m (read c)) (most c) (c .rows-up-to .ensures)
+gathers : (c : tie.After-rows-up-to) → Gathers (s c) 0 "g=" (n c) (mostGenerators (n c)) (read c)
+gathers c = subst (λ m. Gathers (s c) 0 "g=" (n c) m (read c)) (most c) (c .rows-up-to .ensures)
 
 few : (c : tie.After-rows-up-to) → read c .count ≤ rowRoom
 unfolding mostGenerators
@@ -52,9 +52,9 @@ abbrev found : tie.After-begins-row → tie.After-rows-up-to
 found c = c .before .before
 
 more : (c : tie.After-begins-row)
-    → begins (bytes "g=") (drop (read (found c) .used) (s (found c))) ≡ c .begins-row .result
+    → begins (bytes "g=") (drop (read (found c) .end) (s (found c))) ≡ c .begins-row .result
 more c =
-    ap (begins (bytes "g=")) (sym (tail-of (read (found c) .used) (s (found c)))) ∙ sym (c .begins-row .ensures)
+    ap (begins (bytes "g=")) (sym (tail-of (read (found c) .end) (s (found c)))) ∙ sym (c .begins-row .ensures)
 
 -- ---- the needs
 
@@ -67,7 +67,7 @@ returns c = (
 
 rows-up-to-requires : tie.Need-rows-up-to-requires
 unfolding mostGenerators
-rows-up-to-requires c κs = let most = c .most-generators .ensures in (omega arith, search needs)
+rows-up-to-requires c κs = let most = c .most-generators .ensures in (search needs, (omega arith, search needs))
 
 returns-2 : tie.Need-returns-2
 returns-2 c =

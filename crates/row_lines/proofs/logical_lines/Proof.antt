@@ -1,31 +1,28 @@
 -- x, then z; each that is refused ends it.
 use mathlib.Core.List.{List}
-use mathlib.Core.Path.{_≡_, refl, ap, sym, subst, _∙_}
+use mathlib.Core.Path.{_≡_, refl, ap, sym, _∙_}
 use Prim.Native.Nat.{ℕ, _+_, _≤_}
-use native.Mathlib.Nat.{lt-of-le-of-lt}
 use native.Mathlib.Omega.{arith}
 use borrow.Author.Needs.{needs}
-use lib.ListN.{length, drop, length-drop}
 use Rattle.code_record.specs.Record.{rowRoom, pairCount}
-use Rattle.sheet.proofs.Parts.{tail-of}
 use Rattle.row_reader.specs.Answers.{withinQubits}
 use Rattle.row_reader.proofs.Answers.{few-qubits, many-qubits}
-use Rattle.row_lines.specs.declared.LogicalRows.{LogicalRows}
-use Rattle.row_lines.specs.Answers.{GathersLogicals, logicalsAnswer, pairLines}
+use Rattle.row_lines.specs.Answers.{Gathers, logicalsAnswer, pairLines}
+use Rattle.row_lines.proofs.Counted.{logicals-short, logicals-all}
 use Rattle.row_lines.proofs.Answered.{logicals-before, logicals-none, x-refused, z-refused, pairs-given}
 use Rattle.row_lines.proofs.logical_lines.Statement.{statement}
 use Rattle.row_lines.proofs.logical_lines.Tie as tie
 
-abbrev start : tie.After-logicals-of → tie.Start
+abbrev start : tie.After-rows-up-to → tie.Start
 start c = c .before .before .before .before
 
-abbrev s : tie.After-logicals-of → List ℕ
+abbrev s : tie.After-rows-up-to → List ℕ
 s c = start c .args .s .now
 
-abbrev n : tie.After-logicals-of → ℕ
+abbrev n : tie.After-rows-up-to → ℕ
 n c = start c .args .n
 
-abbrev k : tie.After-logicals-of → ℕ
+abbrev k : tie.After-rows-up-to → ℕ
 k c = c .before .pair-count .result
 
 few : (c : tie.After-pair-count) → c .pair-count .result ≤ rowRoom
@@ -33,34 +30,20 @@ unfolding pairCount
 few c = omega (arith, c .pair-count .ensures, c .before .if1 .left)
 
 -- the definition, of no more qubits than a sheet may have
-within : (c : tie.After-logicals-of) (at : ℕ)
+within : (c : tie.After-rows-up-to) (at : ℕ)
     → withinQubits (n c) at (pairLines (pairCount (n c) (start c .args .r)) (n c) at) (s c)
     ≡ pairLines (k c) (n c) at (s c)
 within c at =
     few-qubits (n c) at (pairLines (pairCount (n c) (start c .args .r)) (n c) at) (s c) (c .before .before .if1 .left)
     ∙ ap (λ m. pairLines m (n c) at (s c)) (sym (c .before .pair-count .ensures))
 
-abbrev x : tie.After-logicals-of → LogicalRows
-x c = c .logicals-of .result
-
--- ---- z
-
-abbrev first : tie.After-logicals-of2 → tie.After-logicals-of
+-- z stands behind x
+abbrev first : tie.After-rows-up-to2 → tie.After-rows-up-to
 first c = c .before .before .before
 
-abbrev z : tie.After-logicals-of2 → LogicalRows
-z c = c .logicals-of2 .result
-
-z-gathers : (c : tie.After-logicals-of2)
-    → GathersLogicals (drop (x (first c) .used) (s (first c))) "z=" (n (first c)) (k (first c)) (z c)
-z-gathers c =
-    subst (λ t. GathersLogicals t "z=" (n (first c)) (k (first c)) (z c)) (tail-of (x (first c) .used) (s (first c)))
-    (c .logicals-of2 .ensures)
-
-both-within : (c : tie.After-logicals-of2) → x (first c) .used + z c .used ≤ length (s (first c))
-both-within c =
-    let from-x = length-drop (x (first c) .used) (s (first c)) in
-    omega (arith, first c .logicals-of .ensures .within, z-gathers c .within)
+z-gathers : (c : tie.After-rows-up-to2)
+    → Gathers (s (first c)) (first c .rows-up-to .result .end) "z=" (n (first c)) (k (first c)) (c .rows-up-to2 .result)
+z-gathers c = c .rows-up-to2 .ensures
 
 -- ---- the needs
 
@@ -70,51 +53,49 @@ returns c = (
   λ at. logicals-none (c .off-form .ensures) _ at (omega arith) (many-qubits _ at _ _ (c .before .if1 .taken)),
 )
 
-logicals-of-requires : tie.Need-logicals-of-requires
-logicals-of-requires c κs = (search needs, few c)
+rows-up-to-requires : tie.Need-rows-up-to-requires
+rows-up-to-requires c κs = (search needs, (few c, search needs))
 
 returns-2 : tie.Need-returns-2
 returns-2 c =
-    let line = c .before .before in (
-      logicals-before (c .off-form2 .ensures) _ (omega (arith, line .logicals-of .ensures .few, few (line .before))),
+    let line = c .before .before .before in (
+      logicals-before (c .off-form2 .ensures) _ (omega (arith, line .rows-up-to .ensures .few, few (line .before))),
       λ at. logicals-none (c .off-form2 .ensures) _ at refl
           (within line at ∙ x-refused (k line) (n line) at (s line)
-          (line .logicals-of .ensures .short (c .before .if2 .taken) at)),
+          (logicals-short (line .rows-up-to .ensures) (c .before .if2 .taken) at)),
     )
 
-logicals-of-requires-2 : tie.Need-logicals-of-requires-2
-logicals-of-requires-2 c κs =
-    let begin = c .before .before in (begin .before .before .if1 .left, few (begin .before))
+rows-up-to-requires-2 : tie.Need-rows-up-to-requires-2
+rows-up-to-requires-2 c κs =
+    let begin = c .before .before in
+    (begin .rows-up-to .ensures .within, (few (begin .before), begin .before .before .if1 .left))
 
 add-off-form : tie.Need-add-off-form
-add-off-form c = let line = c .before in omega (arith, line .logicals-of2 .ensures .few, few (first line .before))
+add-off-form c =
+    let line = c .before .before .before in
+    omega (arith, line .rows-up-to2 .ensures .few, few (first line .before))
 
 returns-3 : tie.Need-returns-3
 returns-3 c =
-    let line = c .before .before in
+    let line = c .before .before .before .before in
     let begin = first line in (
-      logicals-before (c .off-form3 .ensures) _ (omega (arith, line .logicals-of2 .ensures .few, few (begin .before))),
+      logicals-before (c .off-form3 .ensures) _ (omega (arith, line .rows-up-to2 .ensures .few, few (begin .before))),
       λ at. logicals-none (c .off-form3 .ensures) _ at (omega arith)
           (within begin at ∙ z-refused (k begin) (n begin) at (s begin)
-          (begin .logicals-of .ensures .all (line .before .before .if2 .left) at)
-          (z-gathers line .short (c .before .if3 .taken) (at + k begin))),
+          (logicals-all (begin .rows-up-to .ensures) (line .before .if2 .left) at)
+          (logicals-short (z-gathers line) (c .before .before .if3 .taken) (at + k begin))),
     )
-
-add-used : tie.Need-add-used
-add-used c =
-    let line = c .before .before in
-    record { fits = lt-of-le-of-lt (both-within line) (start (first line) .good .0 .0) }
 
 returns-4 : tie.Need-returns-4
 returns-4 c =
-    let all = c .before .before .before in
-    let line = all .before in
+    let all = c .before .before in
+    let line = all .before .before in
     let begin = first line in (
       omega arith,
       λ at. pairs-given (k begin) (n begin) at (s begin)
-          (begin .logicals-of .ensures .all (line .before .before .if2 .left) at)
-          (z-gathers line .all (all .if3 .left) (at + k begin))
-          (both-within line)
+          (logicals-all (begin .rows-up-to .ensures) (line .before .if2 .left) at)
+          (logicals-all (z-gathers line) (all .if3 .left) (at + k begin))
+          (line .rows-up-to2 .ensures .within)
           ∙ ap (logicalsAnswer (s begin)) (sym (within begin at)),
     )
 
@@ -125,15 +106,11 @@ logical-lines-spec =
     (λ c κs. search needs)
     returns
     (λ c κs. search needs)
-    logicals-of-requires
+    rows-up-to-requires
     (λ c κs. search needs)
     returns-2
-    (λ c. search needs)
-    (λ c. search needs)
-    (λ c. search needs)
-    logicals-of-requires-2
+    rows-up-to-requires-2
     add-off-form
     (λ c κs. search needs)
     returns-3
-    add-used
     returns-4)

@@ -2,6 +2,7 @@
 use mathlib.Core.List.{List}
 use mathlib.Core.Path.{_≡_, ap, sym, subst, _∙_}
 use Prim.Native.Nat.{ℕ, _+_, _-_, _≤_}
+use native.Mathlib.Nat.{lt-of-le-of-lt}
 use native.Mathlib.Omega.{arith}
 use borrow.Author.Needs.{needs}
 use lib.ListN.{length, drop, replicate, length-drop}
@@ -16,12 +17,12 @@ use Rattle.row_lines.proofs.rows_up_to.Statement.{statement}
 use Rattle.row_lines.proofs.rows_up_to.Tie as tie
 
 abbrev Inv-loop : tie.InvT-loop
-Inv-loop s family most n rows₀ count₀ used₀ rows count used =
-    (count ≤ most) × (used ≤ length s)
-    × ((at : ℕ) → Progress rowRoom (rowsLeft (rowKey family) n most at) s rows count used)
+Inv-loop s from family most n rows₀ count₀ end₀ rows count end =
+    (count ≤ most) × (end ≤ length s)
+    × ((at : ℕ) → Progress rowRoom (rowsLeft (rowKey family) n most at) s from rows count end)
 
 abbrev μ-loop : tie.MeasureT-loop
-μ-loop s family most n rows₀ count₀ used₀ rows count used = most - count
+μ-loop s from family most n rows₀ count₀ end₀ rows count end = most - count
 
 abbrev At : Type 0
 At = tie.At-loop Inv-loop μ-loop
@@ -34,7 +35,7 @@ s c = start c .args .s .now
 
 -- the bytes that are left
 abbrev left : At → List ℕ
-left c = drop (c .loop .used) (s c)
+left c = drop (c .loop .end) (s c)
 
 -- ---- the next line
 
@@ -49,7 +50,7 @@ line-gives c m =
     let first = start (line-at c) in
     sym
     (subst (λ t. rowAt m t (c .row-line .result) ≡ rowLine (rowKey (first .args .family)) (first .args .n) m t)
-    (tail-of (line-at c .loop .used) (s (line-at c)))
+    (tail-of (line-at c .loop .end) (s (line-at c)))
     (c .row-line .ensures .1 m))
 
 -- the row that it has
@@ -60,8 +61,14 @@ row-within : (c : tie.After-more Inv-loop μ-loop) → c .more .given .0 .0 ≤ 
 row-within c =
     let at = line-at (found c) in
     subst (λ r. bytesOf r ≤ length (left at)) (c .more .given .1)
-    (subst (λ t. bytesOf (found c .row-line .result) ≤ length t) (tail-of (at .loop .used) (s at))
+    (subst (λ t. bytesOf (found c .row-line .result) ≤ length t) (tail-of (at .loop .end) (s at))
     (found c .row-line .ensures .0))
+
+both-within : (c : tie.After-more Inv-loop μ-loop)
+    → line-at (found c) .loop .end + c .more .given .0 .0 ≤ length (s (line-at (found c)))
+both-within c =
+    let at = line-at (found c) in
+    omega (arith, row-within c, length-drop (at .loop .end) (s at))
 
 -- ---- the needs
 
@@ -73,9 +80,9 @@ loop-holds c =
       λ at. subst
           (λ one.
           Progress rowRoom (rowsLeft (rowKey (first .args .family)) (first .args .n) (first .args .most) at)
-          (first .args .s .now) (replicate rowRoom one) 0 0)
+          (first .args .s .now) (first .args .from) (replicate rowRoom one) 0 (first .args .from))
           (sym (c .identity .ensures))
-          (progress-start rowRoom _ (first .args .s .now)),
+          (progress-start rowRoom _ (first .args .s .now) (first .args .from)),
     )
 
 returns : tie.Need-returns Inv-loop μ-loop
@@ -89,19 +96,18 @@ returns c =
       ended = λ more at. line-gives line at ∙ ap (rowAt at (left (line-at line))) (c .enum-told .given .1);
     }
 
-add-used : tie.Need-add-used Inv-loop μ-loop
-add-used c =
+add-end : tie.Need-add-end Inv-loop μ-loop
+add-end c =
     let behind = line-at (found (c .before)) in
-    omega (arith, row-within (c .before), length-drop (behind .loop .used) (s behind))
+    record { fits = lt-of-le-of-lt (both-within (c .before)) (start behind .good .0 .0) }
 
 loop-again : tie.Need-loop-again Inv-loop μ-loop
 loop-again c =
     let line = found (c .before) in
     let behind = line-at line in (
       search needs,
-      omega (arith, row-within (c .before), length-drop (behind .loop .used) (s behind)),
-      λ at. progress-row rowRoom _ (s behind) (behind .loop .inv .2 at) _ _ (search needs)
-          (row-within (c .before))
+      both-within (c .before),
+      λ at. progress-row rowRoom _ (s behind) _ (behind .loop .inv .2 at) _ _ (search needs)
           (rows-row _ _ _ at _ _ (line .before .before .loop-test .taken)
           (line-gives line (at + behind .loop .count)
           ∙ ap (rowAt (at + behind .loop .count) (left behind)) (c .before .more .given .1))),
@@ -135,7 +141,7 @@ rows-up-to-spec =
     (λ c. search needs)
     (λ c. search needs)
     (λ c. search needs)
-    add-used
+    add-end
     (λ c. search needs)
     loop-again
     returns-2)

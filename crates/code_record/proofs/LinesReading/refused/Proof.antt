@@ -1,8 +1,8 @@
 -- The record is the empty one.
 use mathlib.Core.Path.{ap}
 use borrow.Author.Needs.{needs}
-use Rattle.ordered_lines.proofs.refused.Statement.{statement}
-use Rattle.ordered_lines.proofs.refused.Tie as tie
+use Rattle.code_record.proofs.LinesReading.refused.Statement.{statement}
+use Rattle.code_record.proofs.LinesReading.refused.Tie as tie
 
 returns : tie.Need-returns
 returns c = ap (λ code. record { answer = c .before .args .answer; «claim_at» = 0; code = code }) (c .empty .ensures)
