@@ -20,9 +20,9 @@ use Rattle.number_reader.specs.Answers.{numberAnswer}
 use Rattle.row_reader.specs.declared.RowLine.{RowLine}
 use Rattle.row_reader.specs.Answers.{rowAnswer, withinQubits}
 use Rattle.row_reader.proofs.Answers.{few-qubits}
-use Rattle.row_lines.specs.declared.Rows.{Rows}
-use Rattle.row_lines.specs.declared.Logicals.{Logicals}
-use Rattle.row_lines.specs.Answers.{linesAt, rowsAnswer, AnswersRows, pairLines, logicalsAnswer, AnswersLogicals}
+use Rattle.rows_reader.specs.declared.Rows.{Rows}
+use Rattle.rows_reader.specs.declared.Logicals.{Logicals}
+use Rattle.rows_reader.specs.Answers.{linesAt, rowsAnswer, AnswersRows, pairLines, logicalsAnswer, AnswersLogicals}
 use Rattle.ordered_lines.specs.Answers.{usedIn, parsed, Reads, countedRows, filledLogicals}
 
 -- The definition gives the value, and what is left begins at a place.

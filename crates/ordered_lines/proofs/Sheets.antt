@@ -11,7 +11,7 @@ use Rattle.code_record.specs.Record.{pairCount, codeOf, emptyBeside}
 use Rattle.sheet.specs.Reader.{Parsed, Reader, SheetRead, got, stop, done, continue, answered}
 use Rattle.sheet.specs.Reader.{logicalLines, claimLine, linesAfter}
 use Rattle.sheet.proofs.Reading.{bytes-used, then-got}
-use Rattle.row_lines.specs.Answers.{pairLines}
+use Rattle.rows_reader.specs.Answers.{pairLines}
 use Rattle.ordered_lines.specs.Answers.{withClaim, countedRows, filledLogicals}
 
 -- ---- the lines behind the g lines, with k pairs of logicals

@@ -9,8 +9,8 @@ use Rattle.code_record.specs.declared.LinesReading.{LinesReading}
 use Rattle.code_record.specs.Record.{rowRoom, firstGeneratorAt, filled, codeOf}
 use Rattle.sheet.specs.Reader.{Parsed, Reader, SheetRead, got, stop, done, _andThen_, answered}
 use Rattle.sheet.specs.Reader.{distanceLine, generatorLines, claimLine, linesAfter}
-use Rattle.row_lines.specs.declared.Rows.{Rows}
-use Rattle.row_lines.specs.declared.Logicals.{Logicals}
+use Rattle.rows_reader.specs.declared.Rows.{Rows}
+use Rattle.rows_reader.specs.declared.Logicals.{Logicals}
 
 -- How many bytes were read.
 abbrev pub usedIn : Lines → ℕ

@@ -5,15 +5,15 @@ use code_record::FIRST_GENERATOR_AT;
 use code_record::LinesReading;
 use refusals::Lines;
 use refusals::Refusal;
-use row_lines::Logicals;
-use row_lines::Rows;
-use row_lines::RowsAnswer;
+use rows_reader::Logicals;
+use rows_reader::Rows;
+use rows_reader::RowsAnswer;
 ghost use mathlib.Core.Path.{_≡_};
 ghost use Prim.Native.Nat.{_+_, _*_, _≤_};
 ghost use lib.ListN.{length};
 ghost use Rattle.code_record.specs.Record.{rowRoom, mostQubits, firstGeneratorAt};
 ghost use Rattle.sheet.specs.Reader.{linesAfter, sheetLines, answered};
-ghost use Rattle.row_lines.specs.Answers.{before, linesAt};
+ghost use Rattle.rows_reader.specs.Answers.{before, linesAt};
 ghost use Rattle.ordered_lines.specs.Answers.{withClaim, linesFromG, linesFromD};
 ghost use Rattle.ordered_lines.specs.Answers.{ReadsOn, ReadsAfter, ReadsClaim};
 
@@ -83,7 +83,7 @@ fn lines_after(
     ensures { λ q. ⌜ ReadsAfter (now (s .entry)) from generators (linesAfter n d at) q ⌝ }
 {
     let r = generators.count;
-    let logicals = row_lines::logical_lines(&s[from..], n, r);
+    let logicals = rows_reader::logical_lines(&s[from..], n, r);
     let read = logicals.answer;
     let answer = lines_at(read, at);
     let Lines::Read { used } = answer else {
@@ -99,7 +99,7 @@ fn lines_from_g(s: &[u8], from: usize, n: usize, d: usize) -> LinesReading
     requires { ⌜ n ≤ mostQubits ⌝ }
     ensures { λ q. ⌜ ReadsOn (now (s .entry)) from (linesFromG n d) q ⌝ }
 {
-    let generators = row_lines::generator_lines(&s[from..], n);
+    let generators = rows_reader::generator_lines(&s[from..], n);
     let read = generators.answer;
     let answer = lines_at(read, FIRST_GENERATOR_AT);
     let Lines::Read { used } = answer else {

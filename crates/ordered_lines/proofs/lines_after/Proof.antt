@@ -12,8 +12,8 @@ use Rattle.sheet.specs.Reader.{Reader, SheetRead, answered}
 use Rattle.sheet.proofs.Parts.{tail-of}
 use Rattle.sheet.proofs.Reading.{then-got, then-stop}
 use Rattle.row_reader.specs.Answers.{withinQubits}
-use Rattle.row_lines.specs.declared.Logicals.{Logicals}
-use Rattle.row_lines.specs.Answers.{pairLines, AnswersLogicals}
+use Rattle.rows_reader.specs.declared.Logicals.{Logicals}
+use Rattle.rows_reader.specs.Answers.{pairLines, AnswersLogicals}
 use Rattle.ordered_lines.specs.Answers.{Reads, withClaim}
 use Rattle.ordered_lines.proofs.Reached.{Reached, was-refused, reached-more}
 use Rattle.ordered_lines.proofs.Reached.{the-logicals, logicals-read, logicals-held}

@@ -2,7 +2,7 @@
 use mathlib.Core.Path.{ap, sym}
 use native.Mathlib.Omega.{arith}
 use borrow.Author.Needs.{needs}
-use Rattle.row_lines.specs.Answers.{before, linesAt}
+use Rattle.rows_reader.specs.Answers.{before, linesAt}
 use Rattle.ordered_lines.proofs.lines_at.Statement.{statement}
 use Rattle.ordered_lines.proofs.lines_at.Tie as tie
 

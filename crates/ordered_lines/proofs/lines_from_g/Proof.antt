@@ -14,8 +14,8 @@ use Rattle.sheet.proofs.Outcome.{what-was-got}
 use Rattle.sheet.proofs.Parts.{tail-of}
 use Rattle.sheet.proofs.Reading.{then-got, then-stop}
 use Rattle.row_reader.specs.Answers.{withinQubits}
-use Rattle.row_lines.specs.declared.Rows.{Rows}
-use Rattle.row_lines.specs.Answers.{AnswersRows}
+use Rattle.rows_reader.specs.declared.Rows.{Rows}
+use Rattle.rows_reader.specs.Answers.{AnswersRows}
 use Rattle.ordered_lines.specs.Answers.{Reads, countedRows}
 use Rattle.ordered_lines.proofs.Reached.{Reached, was-refused, reached-more}
 use Rattle.ordered_lines.proofs.Reached.{the-generators, generators-read, generators-held}

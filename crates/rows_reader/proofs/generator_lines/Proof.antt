@@ -13,12 +13,13 @@ use Rattle.sheet.specs.Reader.{begins, generatorLines}
 use Rattle.sheet.proofs.Parts.{tail-of}
 use Rattle.row_reader.specs.Answers.{withinQubits}
 use Rattle.row_reader.proofs.Answers.{few-qubits, many-qubits}
-use Rattle.row_lines.specs.declared.Gathered.{Gathered}
-use Rattle.row_lines.specs.Answers.{Gathers, rowsAnswer}
-use Rattle.row_lines.proofs.Counted.{generators-off-form, generators-too-many, generators-none, generators-read}
-use Rattle.row_lines.proofs.Answered.{rows-before, rows-none, rows-given}
-use Rattle.row_lines.proofs.generator_lines.Statement.{statement}
-use Rattle.row_lines.proofs.generator_lines.Tie as tie
+use Rattle.rows_reader.specs.declared.Gathered.{Gathered}
+use Rattle.rows_reader.specs.Answers.{Gathers, rowsAnswer}
+use Rattle.rows_reader.proofs.Counted.{generators-off-form, generators-too-many, generators-none}
+use Rattle.rows_reader.proofs.Counted.{generators-read}
+use Rattle.rows_reader.proofs.Answered.{rows-before, rows-none, rows-given}
+use Rattle.rows_reader.proofs.generator_lines.Statement.{statement}
+use Rattle.rows_reader.proofs.generator_lines.Tie as tie
 
 abbrev start : tie.After-rows-up-to → tie.Start
 start c = c .before .before .before .before

@@ -7,10 +7,10 @@ use borrow.Author.Needs.{needs}
 use Rattle.letters.specs.Lists.{bytes}
 use Rattle.refusals.specs.Families.{rowKey}
 use Rattle.sheet.specs.Reader.{begins}
-use Rattle.row_lines.proofs.RowForms.{row-refused, row-got}
-use Rattle.row_lines.proofs.RowsLeft.{row-not-begun}
-use Rattle.row_lines.proofs.row_line.Statement.{statement}
-use Rattle.row_lines.proofs.row_line.Tie as tie
+use Rattle.rows_reader.proofs.RowForms.{row-refused, row-got}
+use Rattle.rows_reader.proofs.RowsLeft.{row-not-begun}
+use Rattle.rows_reader.proofs.row_line.Statement.{statement}
+use Rattle.rows_reader.proofs.row_line.Tie as tie
 
 -- the key, as it was looked at
 key : (c : tie.After-begins-row)

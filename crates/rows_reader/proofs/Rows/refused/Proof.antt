@@ -3,8 +3,8 @@ use mathlib.Core.Path.{ap}
 use lib.ListN.{replicate}
 use borrow.Author.Needs.{needs}
 use Rattle.code_record.specs.Record.{rowRoom}
-use Rattle.row_lines.proofs.Rows.refused.Statement.{statement}
-use Rattle.row_lines.proofs.Rows.refused.Tie as tie
+use Rattle.rows_reader.proofs.Rows.refused.Statement.{statement}
+use Rattle.rows_reader.proofs.Rows.refused.Tie as tie
 
 returns : tie.Need-returns
 returns c =

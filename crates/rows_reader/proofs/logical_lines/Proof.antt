@@ -7,11 +7,11 @@ use borrow.Author.Needs.{needs}
 use Rattle.code_record.specs.Record.{rowRoom, pairCount}
 use Rattle.row_reader.specs.Answers.{withinQubits}
 use Rattle.row_reader.proofs.Answers.{few-qubits, many-qubits}
-use Rattle.row_lines.specs.Answers.{Gathers, logicalsAnswer, pairLines}
-use Rattle.row_lines.proofs.Counted.{logicals-short, logicals-all}
-use Rattle.row_lines.proofs.Answered.{logicals-before, logicals-none, x-refused, z-refused, pairs-given}
-use Rattle.row_lines.proofs.logical_lines.Statement.{statement}
-use Rattle.row_lines.proofs.logical_lines.Tie as tie
+use Rattle.rows_reader.specs.Answers.{Gathers, logicalsAnswer, pairLines}
+use Rattle.rows_reader.proofs.Counted.{logicals-short, logicals-all}
+use Rattle.rows_reader.proofs.Answered.{logicals-before, logicals-none, x-refused, z-refused, pairs-given}
+use Rattle.rows_reader.proofs.logical_lines.Statement.{statement}
+use Rattle.rows_reader.proofs.logical_lines.Tie as tie
 
 abbrev start : tie.After-rows-up-to → tie.Start
 start c = c .before .before .before .before

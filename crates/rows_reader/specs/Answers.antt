@@ -12,11 +12,11 @@ use Rattle.code_record.specs.Record.{rowRoom, filled}
 use Rattle.sheet.specs.Reader.{Parsed, Reader, got, stop, done, continue, _andThen_}
 use Rattle.sheet.specs.Reader.{rowLine, rowsUpTo, logicalLines}
 use Rattle.line_parts.specs.LineValues.{linesOf, valueOr}
-use Rattle.row_lines.specs.declared.RowRead.{RowRead}
-use Rattle.row_lines.specs.declared.Gathered.{Gathered}
-use Rattle.row_lines.specs.declared.RowsAnswer.{RowsAnswer}
-use Rattle.row_lines.specs.declared.Rows.{Rows}
-use Rattle.row_lines.specs.declared.Logicals.{Logicals}
+use Rattle.rows_reader.specs.declared.RowRead.{RowRead}
+use Rattle.rows_reader.specs.declared.Gathered.{Gathered}
+use Rattle.rows_reader.specs.declared.RowsAnswer.{RowsAnswer}
+use Rattle.rows_reader.specs.declared.Rows.{Rows}
+use Rattle.rows_reader.specs.declared.Logicals.{Logicals}
 
 -- ---- one line
 

@@ -3,9 +3,9 @@ use mathlib.Core.Path.{ap}
 use lib.ListN.{replicate}
 use borrow.Author.Needs.{needs}
 use Rattle.code_record.specs.Record.{rowRoom}
-use Rattle.row_lines.specs.declared.RowsAnswer.{RowsAnswer}
-use Rattle.row_lines.proofs.Logicals.off_form.Statement.{statement}
-use Rattle.row_lines.proofs.Logicals.off_form.Tie as tie
+use Rattle.rows_reader.specs.declared.RowsAnswer.{RowsAnswer}
+use Rattle.rows_reader.proofs.Logicals.off_form.Statement.{statement}
+use Rattle.rows_reader.proofs.Logicals.off_form.Tie as tie
 
 returns : tie.Need-returns
 returns c =

@@ -3,7 +3,7 @@ use mathlib.Core.List.{List, [], _∷_, _++_, append-assoc, append-nil}
 use mathlib.Core.Path.{_≡_, refl, ap, sym, _∙_}
 use Prim.Native.Nat.{ℕ, _+_, _-_, _<_}
 use native.Mathlib.Omega.{arith}
-use lib.ListN.{length, drop, set, replicate, length-append}
+use lib.ListN.{drop, set, replicate, length-append}
 use lib.Seq.{drop-drop}
 use Rattle.pauli.specs.declared.Pauli.{Pauli}
 use Rattle.pauli.specs.Product.{identity}
@@ -11,7 +11,7 @@ use Rattle.refusals.specs.declared.Refusal.{Refusal}
 use Rattle.code_record.specs.Record.{filled}
 use Rattle.code_record.proofs.Filled.{filled-more}
 use Rattle.sheet.specs.Reader.{Parsed, Reader, got, stop, done, continue}
-use Rattle.row_lines.specs.Answers.{prepended, Progress}
+use Rattle.rows_reader.specs.Answers.{prepended, Progress}
 
 prepended-nothing : (p : Parsed (List Pauli)) → p ≡ prepended [] p
 unfolding prepended continue done

@@ -2,7 +2,7 @@
 use mathlib.Core.List.{List}
 use mathlib.Core.Path.{_≡_, ap, sym, subst, _∙_}
 use Prim.Native.Nat.{ℕ, _+_, _-_, _≤_}
-use native.Mathlib.Nat.{lt-of-le-of-lt}
+use native.Mathlib.Nat.{lt-of-le-of-lt, lt-of-lt-of-le}
 use native.Mathlib.Omega.{arith}
 use borrow.Author.Needs.{needs}
 use lib.ListN.{length, drop, replicate, length-drop}
@@ -10,11 +10,11 @@ use Rattle.code_record.specs.Record.{rowRoom}
 use Rattle.refusals.specs.Families.{rowKey}
 use Rattle.sheet.specs.Reader.{rowLine}
 use Rattle.sheet.proofs.Parts.{tail-of}
-use Rattle.row_lines.specs.Answers.{bytesOf, rowAt, rowsLeft, Progress}
-use Rattle.row_lines.proofs.Progress.{progress-start, progress-row}
-use Rattle.row_lines.proofs.RowsLeft.{rows-row}
-use Rattle.row_lines.proofs.rows_up_to.Statement.{statement}
-use Rattle.row_lines.proofs.rows_up_to.Tie as tie
+use Rattle.rows_reader.specs.Answers.{bytesOf, rowAt, rowsLeft, Progress}
+use Rattle.rows_reader.proofs.Progress.{progress-start, progress-row}
+use Rattle.rows_reader.proofs.RowsLeft.{rows-row}
+use Rattle.rows_reader.proofs.rows_up_to.Statement.{statement}
+use Rattle.rows_reader.proofs.rows_up_to.Tie as tie
 
 abbrev Inv-loop : tie.InvT-loop
 Inv-loop s from family most n rows₀ count₀ end₀ rows count end =
@@ -75,8 +75,8 @@ both-within c =
 loop-holds : tie.Need-loop-holds Inv-loop μ-loop
 loop-holds c =
     let first = c .before .before in (
-      search needs,
-      search needs,
+      omega arith,
+      first .pre .0,
       λ at. subst
           (λ one.
           Progress rowRoom (rowsLeft (rowKey (first .args .family)) (first .args .n) (first .args .most) at)
@@ -104,11 +104,13 @@ add-end c =
 loop-again : tie.Need-loop-again Inv-loop μ-loop
 loop-again c =
     let line = found (c .before) in
-    let behind = line-at line in (
-      search needs,
+    let behind = line-at line in
+    let more = line .before .before .loop-test .taken in (
+      omega (arith, more),
       both-within (c .before),
-      λ at. progress-row rowRoom _ (s behind) _ (behind .loop .inv .2 at) _ _ (search needs)
-          (rows-row _ _ _ at _ _ (line .before .before .loop-test .taken)
+      λ at. progress-row rowRoom _ (s behind) _ (behind .loop .inv .2 at) _ _
+          (lt-of-lt-of-le more (start behind .pre .1 .0))
+          (rows-row _ _ _ at _ _ more
           (line-gives line (at + behind .loop .count)
           ∙ ap (rowAt (at + behind .loop .count) (left behind)) (c .before .more .given .1))),
     )

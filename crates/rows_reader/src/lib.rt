@@ -12,8 +12,8 @@ ghost use Rattle.code_record.specs.Record.{rowRoom, mostQubits, pairCount};
 ghost use Rattle.refusals.specs.Families.{rowKey};
 ghost use Rattle.sheet.specs.Reader.{rowLine, generatorLines};
 ghost use Rattle.row_reader.specs.Answers.{withinQubits};
-ghost use Rattle.row_lines.specs.Answers.{bytesOf, rowAt, Gathers, before, AnswersRows};
-ghost use Rattle.row_lines.specs.Answers.{AnswersLogicals, noRows, noLogicals, pairLines};
+ghost use Rattle.rows_reader.specs.Answers.{bytesOf, rowAt, Gathers, before, AnswersRows};
+ghost use Rattle.rows_reader.specs.Answers.{AnswersLogicals, noRows, noLogicals, pairLines};
 
 // What a line is read as: a row, and how many bytes the line took.
 enum RowRead {

@@ -14,10 +14,10 @@ use Rattle.code_record.specs.Record.{rowRoom, mostGenerators}
 use Rattle.sheet.specs.Reader.{got, stop, begins, rowsUpTo, generatorLines, countedGenerators}
 use Rattle.sheet.specs.Reader.{logicalLines, countedLogicals}
 use Rattle.sheet.proofs.Reading.{then-got, then-stop}
-use Rattle.row_lines.specs.declared.Gathered.{Gathered}
-use Rattle.row_lines.specs.Answers.{rowsLeft, Gathers, Held}
-use Rattle.row_lines.proofs.Progress.{progress-refused, progress-end}
-use Rattle.row_lines.proofs.RowsLeft.{rows-all, rows-full, rows-ended, rows-refused}
+use Rattle.rows_reader.specs.declared.Gathered.{Gathered}
+use Rattle.rows_reader.specs.Answers.{rowsLeft, Gathers, Held}
+use Rattle.rows_reader.proofs.Progress.{progress-refused, progress-end}
+use Rattle.rows_reader.proofs.RowsLeft.{rows-all, rows-full, rows-ended, rows-refused}
 
 -- ---- rows of any key
 

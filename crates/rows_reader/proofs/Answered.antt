@@ -11,11 +11,11 @@ use Rattle.code_record.specs.Record.{rowRoom, filled}
 use Rattle.sheet.specs.Reader.{Parsed, Reader, got, stop, done, continue, logicalLines}
 use Rattle.sheet.proofs.Reading.{bytes-used, then-got, then-stop}
 use Rattle.line_parts.specs.LineValues.{linesOf, valueOr}
-use Rattle.row_lines.specs.declared.Rows.{Rows}
-use Rattle.row_lines.specs.declared.RowsAnswer.{RowsAnswer}
-use Rattle.row_lines.specs.declared.Logicals.{Logicals}
-use Rattle.row_lines.specs.Answers.{Held, before, linesAt, rowsAnswer, noRows}
-use Rattle.row_lines.specs.Answers.{pairLines, logicalsAnswer, noLogicals}
+use Rattle.rows_reader.specs.declared.Rows.{Rows}
+use Rattle.rows_reader.specs.declared.RowsAnswer.{RowsAnswer}
+use Rattle.rows_reader.specs.declared.Logicals.{Logicals}
+use Rattle.rows_reader.specs.Answers.{Held, before, linesAt, rowsAnswer, noRows}
+use Rattle.rows_reader.specs.Answers.{pairLines, logicalsAnswer, noLogicals}
 
 -- ---- g lines
 

@@ -11,7 +11,7 @@ use Rattle.refusals.specs.declared.Refusal.{Refusal}
 use Rattle.sheet.specs.Reader.{Reader, got, stop, done, continue, begins, isLine, lineOf}
 use Rattle.sheet.specs.Reader.{rowLine, rowsUpTo}
 use Rattle.sheet.proofs.Reading.{then-got, then-stop}
-use Rattle.row_lines.specs.Answers.{rowsLeft}
+use Rattle.rows_reader.specs.Answers.{rowsLeft}
 
 -- A line that does not begin with the key is off its form, so one that has a row begins with it.
 pub row-not-begun : (key : String) (n at : ℕ) (s : List ℕ) → begins (bytes key) s ≡ false
