@@ -2,7 +2,7 @@
 //! a sheet, so it is looked at qubit by qubit and turned into one.
 
 use crate::group;
-use crate::sheet::{line, Letter, Refusal, Row, Sheet};
+use crate::sheet::{letters_text, line, Letter, Refusal, Row, Sheet};
 
 /// i^p D(a,b), with qubit j at bit j - 1 of both masks, and p read modulo 4.
 #[derive(Clone, Copy, PartialEq, Eq, Debug)]
@@ -140,11 +140,20 @@ impl Record {
     /// Writes the line of one row of n letters, whatever it is: its sign is - where it is not +, and bits above qubit n
     /// are left out. 15 is about n alone.
     pub fn write_row(&self, key: &str, pauli: Pauli, out: &mut [u8]) -> Result<usize, Refusal> {
+        let (minus, letters) = (!pauli.has_sign(false), self.letters(pauli)?);
+        put(&line(key, &Row { minus, letters }.text()), out)
+    }
+
+    /// Writes the same line without the sign.
+    pub fn write_letters(&self, key: &str, pauli: Pauli, out: &mut [u8]) -> Result<usize, Refusal> {
+        put(&line(key, &letters_text(&self.letters(pauli)?)), out)
+    }
+
+    fn letters(&self, pauli: Pauli) -> Result<Vec<Letter>, Refusal> {
         if !(2..=24).contains(&self.n) {
             return Err(Refusal::new(15, 0));
         }
-        let (minus, letters) = (!pauli.has_sign(false), pauli.letters(self.n));
-        put(&line(key, &Row { minus, letters }.text()), out)
+        Ok(pauli.letters(self.n))
     }
 
     /// Checks 15 and 6 to 8; gives the generators.
@@ -291,8 +300,10 @@ mod tests {
         let (p, a, b) = (1, 1 << 5 | 1, 1 << 5);
         assert_eq!(record.write_row("h=", Pauli { p, a, b }, &mut out), Ok(9));
         assert_eq!(&out, b"h=+XIIII\n");
+        assert_eq!(record.write_letters("e=", record.g[0], &mut out), Ok(8));
+        assert_eq!(&out, b"e=XYZYI\n\n");
         assert_eq!(write_number("d=", 3014, &mut out), Ok(7));
-        assert_eq!(&out, b"d=3014\nI\n");
+        assert_eq!(&out, b"d=3014\n\n\n");
         let refusal = Err(Refusal::new(17, 0));
         assert_eq!(write_number("d=", 3014, &mut out[..6]), refusal);
     }

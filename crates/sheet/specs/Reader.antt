@@ -17,7 +17,7 @@ use Rattle.code_record.specs.declared.Code.{Code}
 use Rattle.refusals.specs.declared.Refusal.{Refusal}
 use Rattle.refusals.specs.declared.Lines.{Lines}
 use Rattle.code_record.specs.declared.LinesReading.{LinesReading}
-use Rattle.code_record.specs.Record.{between, codeOf, emptyCode, pairCount, mostGenerators, firstGeneratorAt}
+use Rattle.code_record.specs.Record.{between, codeOf, emptyBeside, pairCount, mostGenerators, firstGeneratorAt}
 use Rattle.code_record.specs.Record.{mostQubits, mostDistance, longestInput}
 use Rattle.sheet.specs.Text.{lineFeed}
 
@@ -179,7 +179,7 @@ readForm = readLines andThen nothingBehind
 unfoldable pub answered : List ℕ → Parsed SheetRead → LinesReading
 answered s (got q rest) =
     record { answer = Lines.Read (length s - length rest); «claim_at» = q .claimAt; code = q .code }
-answered s (stop refusal) = record { answer = Lines.Refused refusal; «claim_at» = 0; code = emptyCode }
+answered s (stop refusal) = emptyBeside (Lines.Refused refusal)
 
 -- The call on the lines of a sheet, with anything behind them, as a report reads it; and on a sheet by itself.
 unfoldable pub linesReading : List ℕ → LinesReading

@@ -1,5 +1,6 @@
 // Writes single lines of the changed record of a sheet, into buffers about as long as a line: that of the first
-// generator with the key h, that of n, which may be any number, and that of the X mask of w.
+// generator with the key h, that of its letters with the key e, that of n, which may be any number, and that of the X
+// mask of w.
 use crate::written::Writer;
 use crate::written::write_thrice;
 use refusals::Family;
@@ -12,6 +13,7 @@ pub fn answer_lines(text: &[u8], change: usize) {
     let first = changed.row(Family::Generator, 0);
     let w = changed.w;
     write_thrice(Writer::Row(first), changed, code.n % 32 + 4);
+    write_thrice(Writer::Letters(first), changed, code.n % 32 + 3);
     write_thrice(Writer::Number(changed.n), changed, 23);
     write_thrice(Writer::Number(w.a as usize), changed, 8);
 }

@@ -9,11 +9,12 @@ use test_cases::print;
 use test_cases::print_buffer;
 use test_cases::print_written;
 
-// Of a record's sheet, of its canonical generators, or of the line of a row or a number by itself.
+// Of a record's sheet, of its canonical generators, or of the line of a row, of its letters or of a number by itself.
 pub enum Writer {
     Sheet,
     Canonical,
     Row(Pauli),
+    Letters(Pauli),
     Number(usize),
 }
 
@@ -44,6 +45,7 @@ fn written(writer: Writer, code: Code, out: &mut [u8]) -> Written {
         Writer::Sheet => writer::write_sheet(code, out),
         Writer::Canonical => canonical::write_canonical(code, out),
         Writer::Row(row) => row_writer::write_row(b'h', code.n, row, out),
+        Writer::Letters(row) => row_writer::write_letters(b'e', code.n, row, out),
         Writer::Number(number) => number_writer::write_number(b"n=", number, out),
     }
 }
