@@ -15,8 +15,6 @@ use Rattle.sheet.specs.Writer.{rowLines}
 use Rattle.sheet.proofs.Consumed.{OfForm, generator-lines-outcome, logical-lines-outcome, claim-line-outcome}
 use Rattle.sheet.proofs.Outcome.{Outcome, gets, stops, continue-outcome, Took}
 use Rattle.line_parts.specs.LineValues.{linesOf, valueOr}
-use Rattle.number_reader.specs.declared.NumberLine.{NumberLine}
-use Rattle.number_reader.specs.Answers.{numberAnswer}
 use Rattle.row_reader.specs.declared.RowLine.{RowLine}
 use Rattle.row_reader.specs.Answers.{rowAnswer, withinQubits}
 use Rattle.row_reader.proofs.Answers.{few-qubits}
@@ -59,7 +57,7 @@ reached-more {value = value} {from = from} {more = more} {s = s} fits h e =
 
 module _ {Stop : Refusal → Type 0} (s : List ℕ) where
   -- Where the bytes that were read are a text of the value, the rest begins behind it.
-  reads-of : {A : Type 0} {text : A → List ℕ} {Law : A → Type 0} {p : Parsed A} (other : A)
+  pub reads-of : {A : Type 0} {text : A → List ℕ} {Law : A → Type 0} {p : Parsed A} (other : A)
       → Outcome (Took text Law s) Stop p
       → Reads s (linesOf s p) (valueOr other p) p
   unfolding linesOf valueOr
@@ -73,12 +71,6 @@ module _ {Stop : Refusal → Type 0} (s : List ℕ) where
             ∙ ap (got a) (drop-at (text a) rest (length (text a)) refl);
       }
   reads-of other (stops h) = record { within = omega arith; parses = refl }
-
-  pub number-reads : {text : ℕ → List ℕ} {Law : ℕ → Type 0} {p : Parsed ℕ} {line : NumberLine}
-      → Outcome (Took text Law s) Stop p
-      → line ≡ numberAnswer s p → Reads s (line .answer) (line .number) p
-  unfolding numberAnswer
-  number-reads {p = p} h e = subst (λ line. Reads s (line .answer) (line .number) p) (sym e) (reads-of 0 h)
 
   row-reads : {text : Pauli → List ℕ} {Law : Pauli → Type 0} {p : Parsed Pauli} {line : RowLine}
       → Outcome (Took text Law s) Stop p

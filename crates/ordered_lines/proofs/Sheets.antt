@@ -1,18 +1,19 @@
 -- The lines of a sheet one after the other: what each makes of the reading, and what stands beside the answer.
 use mathlib.Core.List.{List}
 use mathlib.Core.Path.{_≡_, refl, ap, sym, _∙_}
-use Prim.Native.Nat.{ℕ, _+_, _*_, _≤_}
+use Prim.Native.Nat.{ℕ, _+_, _*_, _≤_, _<_}
+use borrow.Author.Tests.{le-ltb, lt-ltb}
 use lib.ListN.{length, drop}
 use Rattle.pauli.specs.declared.Pauli.{Pauli}
 use Rattle.refusals.specs.declared.Lines.{Lines}
 use Rattle.code_record.specs.declared.LinesReading.{LinesReading}
 use Rattle.refusals.specs.declared.Refusal.{Refusal}
-use Rattle.code_record.specs.Record.{pairCount, codeOf, emptyBeside}
+use Rattle.code_record.specs.Record.{mostQubits, firstGeneratorAt, pairCount, codeOf, emptyBeside}
 use Rattle.sheet.specs.Reader.{Parsed, Reader, SheetRead, got, stop, done, continue, answered}
 use Rattle.sheet.specs.Reader.{logicalLines, claimLine, linesAfter}
 use Rattle.sheet.proofs.Reading.{bytes-used, then-got}
 use Rattle.rows_reader.specs.Answers.{pairLines}
-use Rattle.ordered_lines.specs.Answers.{withClaim, countedRows, filledLogicals}
+use Rattle.ordered_lines.specs.Answers.{withClaim, linesFromG, rowsAndClaim, countedRows, filledLogicals}
 
 -- ---- the lines behind the g lines, with k pairs of logicals
 
@@ -69,6 +70,21 @@ claim-read n d at gs xs zs s {w = w} {rest = rest} held ls e =
       claimAt = at;
     })
     rest)
+
+-- ---- the lines from a byte on
+
+module _ (from n d : ℕ) (s : List ℕ) where
+  pub rows-inside : n ≤ mostQubits → from ≤ length s → rowsAndClaim from n d s ≡ linesFromG n d (drop from s)
+  unfolding rowsAndClaim
+  rows-inside few here = rw (le-ltb mostQubits n few, le-ltb (length s) from here)
+
+  pub too-many-qubits : mostQubits < n → rowsAndClaim from n d s ≡ stop (Refusal.Form firstGeneratorAt)
+  unfolding rowsAndClaim
+  too-many-qubits many = rw (lt-ltb mostQubits n many)
+
+  pub no-such-byte : n ≤ mostQubits → length s < from → rowsAndClaim from n d s ≡ stop (Refusal.Form firstGeneratorAt)
+  unfolding rowsAndClaim
+  no-such-byte few behind = rw (le-ltb mostQubits n few, lt-ltb (length s) from behind)
 
 -- ---- the reading of a whole sheet
 

@@ -1,14 +1,17 @@
 -- What the readers of the lines in their order answer, in the terms of the sheet's definitions.
+use mathlib.Core.Bool.{cond, _||_}
 use mathlib.Core.List.{List}
 use mathlib.Core.Path.{_≡_}
 use Prim.Native.Nat.{ℕ, _+_, _≤_}
+use lib.Dec.{ltb}
 use lib.ListN.{length, drop}
 use Rattle.pauli.specs.declared.Pauli.{Pauli}
 use Rattle.refusals.specs.declared.Lines.{Lines}
+use Rattle.refusals.specs.declared.Refusal.{Refusal}
 use Rattle.code_record.specs.declared.LinesReading.{LinesReading}
-use Rattle.code_record.specs.Record.{rowRoom, firstGeneratorAt, filled, codeOf}
+use Rattle.code_record.specs.Record.{mostQubits, rowRoom, firstGeneratorAt, filled, codeOf}
 use Rattle.sheet.specs.Reader.{Parsed, Reader, SheetRead, got, stop, done, _andThen_, answered}
-use Rattle.sheet.specs.Reader.{distanceLine, generatorLines, claimLine, linesAfter}
+use Rattle.sheet.specs.Reader.{generatorLines, claimLine, linesAfter}
 use Rattle.rows_reader.specs.declared.Rows.{Rows}
 use Rattle.rows_reader.specs.declared.Logicals.{Logicals}
 
@@ -40,8 +43,11 @@ linesFromG n d =
     generatorLines n firstGeneratorAt andThen λ gs.
     linesAfter n d (firstGeneratorAt + length gs) gs
 
-abbrev pub linesFromD : ℕ → Reader SheetRead
-linesFromD n = distanceLine andThen linesFromG n
+-- The same from a byte on. Where there is no such byte, and where a sheet may not have n qubits, the first line is off
+-- its form.
+unfoldable pub rowsAndClaim : (from n d : ℕ) → Reader SheetRead
+rowsAndClaim from n d s =
+    cond (ltb mostQubits n || ltb (length s) from) (stop (Refusal.Form firstGeneratorAt)) (linesFromG n d (drop from s))
 
 -- What is read from a byte on.
 abbrev pub ReadsOn : List ℕ → ℕ → Reader SheetRead → LinesReading → Type 0

@@ -1,8 +1,9 @@
-// The lines of a sheet, one after the other: n, d, the g lines, the x and z lines, and w. Each function reads one kind
-// and goes on with the next, or ends the reading with a refusal.
+// The lines of a sheet from the g lines on, one after the other: g, x and z, and w. Each function reads one kind and goes
+// on with the next, or ends the reading with a refusal.
 use code_record::Code;
 use code_record::FIRST_GENERATOR_AT;
 use code_record::LinesReading;
+use code_record::MOST_QUBITS;
 use refusals::Lines;
 use refusals::Refusal;
 use rows_reader::Logicals;
@@ -11,11 +12,12 @@ use rows_reader::RowsAnswer;
 ghost use mathlib.Core.Path.{_≡_};
 ghost use Prim.Native.Nat.{_+_, _*_, _≤_};
 ghost use lib.ListN.{length};
-ghost use Rattle.code_record.specs.Record.{rowRoom, mostQubits, firstGeneratorAt};
-ghost use Rattle.sheet.specs.Reader.{linesAfter, sheetLines, answered};
+ghost use Rattle.code_record.specs.Record.{rowRoom, mostQubits, firstGeneratorAt, emptyBeside};
+ghost use Rattle.refusals.specs.declared.Lines.the-variants.{Refused};
+ghost use Rattle.refusals.specs.declared.Refusal.the-variants.{Form};
+ghost use Rattle.sheet.specs.Reader.{linesAfter, answered};
 ghost use Rattle.rows_reader.specs.Answers.{before, linesAt};
-ghost use Rattle.ordered_lines.specs.Answers.{withClaim, linesFromG, linesFromD};
-ghost use Rattle.ordered_lines.specs.Answers.{ReadsOn, ReadsAfter, ReadsClaim};
+ghost use Rattle.ordered_lines.specs.Answers.{withClaim, rowsAndClaim, ReadsAfter, ReadsClaim};
 
 // The answer for lines of rows, where the first of them is the line `at` of the sheet.
 fn lines_at(answer: RowsAnswer, at: usize) -> Lines
@@ -93,12 +95,24 @@ fn lines_after(
     claim_after(s, from + used, n, d, claim_at, generators, logicals)
 }
 
-// The lines from the byte `from` on: g and what follows.
-fn lines_from_g(s: &[u8], from: usize, n: usize, d: usize) -> LinesReading
-    requires { ⌜ from ≤ length (now s) ⌝ }
-    requires { ⌜ n ≤ mostQubits ⌝ }
-    ensures { λ q. ⌜ ReadsOn (now (s .entry)) from (linesFromG n d) q ⌝ }
+// The first g line is off its form.
+fn off_form() -> LinesReading
+    ensures { λ r. ⌜ r ≡ emptyBeside (Refused (Form firstGeneratorAt)) ⌝ }
 {
+    LinesReading::refused(Lines::Refused(Refusal::Form(FIRST_GENERATOR_AT)))
+}
+
+// The lines from the byte `from` on: g, x, z and w. Where there is no such byte, and where a sheet may not have n qubits,
+// the first of them is off its form.
+pub fn lines_from_g(s: &[u8], from: usize, n: usize, d: usize) -> LinesReading
+    ensures { λ q. ⌜ q ≡ answered (now (s .entry)) (rowsAndClaim from n d (now (s .entry))) ⌝ }
+{
+    if MOST_QUBITS < n {
+        return off_form();
+    }
+    if s.len() < from {
+        return off_form();
+    }
     let generators = rows_reader::generator_lines(&s[from..], n);
     let read = generators.answer;
     let answer = lines_at(read, FIRST_GENERATOR_AT);
@@ -107,30 +121,4 @@ fn lines_from_g(s: &[u8], from: usize, n: usize, d: usize) -> LinesReading
     };
     let at = FIRST_GENERATOR_AT + generators.count;
     lines_after(s, from + used, n, d, at, generators)
-}
-
-// The lines from the byte `from` on: d and what follows.
-fn lines_from_d(s: &[u8], from: usize, n: usize) -> LinesReading
-    requires { ⌜ from ≤ length (now s) ⌝ }
-    requires { ⌜ n ≤ mostQubits ⌝ }
-    ensures { λ q. ⌜ ReadsOn (now (s .entry)) from (linesFromD n) q ⌝ }
-{
-    let distance = number_reader::distance_line(&s[from..]);
-    let answer = distance.answer;
-    let Lines::Read { used } = answer else {
-        return LinesReading::refused(answer);
-    };
-    lines_from_g(s, from + used, n, distance.number)
-}
-
-// The lines of a sheet, in their order.
-pub fn sheet_lines(s: &[u8]) -> LinesReading
-    ensures { λ r. ⌜ r ≡ answered (now (s .entry)) (sheetLines (now (s .entry))) ⌝ }
-{
-    let qubits = number_reader::qubit_line(s);
-    let answer = qubits.answer;
-    let Lines::Read { used } = answer else {
-        return LinesReading::refused(answer);
-    };
-    lines_from_d(s, used, qubits.number)
 }

@@ -8,11 +8,13 @@ use Rattle.sheet.specs.Reader.{qubitLine, sheetLines, answered}
 use Rattle.sheet.proofs.Outcome.{what-was-got}
 use Rattle.sheet.proofs.Consumed.{qubit-line-outcome}
 use Rattle.sheet.proofs.Reading.{then-got, then-stop}
-use Rattle.ordered_lines.specs.Answers.{Reads, linesFromD}
-use Rattle.ordered_lines.proofs.Reached.{Reached, was-read, was-refused, number-reads}
+use Rattle.ordered_lines.specs.Answers.{Reads}
+use Rattle.reader.specs.Lines.{linesFromD}
+use Rattle.ordered_lines.proofs.Reached.{Reached, was-read, was-refused}
+use Rattle.reader.proofs.Numbers.{number-reads}
 use Rattle.ordered_lines.proofs.Sheets.{sheet-refused}
-use Rattle.ordered_lines.proofs.sheet_lines.Statement.{statement}
-use Rattle.ordered_lines.proofs.sheet_lines.Tie as tie
+use Rattle.reader.proofs.sheet_lines.Statement.{statement}
+use Rattle.reader.proofs.sheet_lines.Tie as tie
 
 abbrev s : tie.After-qubit-line → List ℕ
 s c = c .before .before .args .s .now

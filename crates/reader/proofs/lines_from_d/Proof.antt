@@ -10,11 +10,12 @@ use Rattle.sheet.proofs.Consumed.{distance-line-outcome}
 use Rattle.sheet.proofs.Parts.{tail-of}
 use Rattle.sheet.proofs.Reading.{then-got, then-stop}
 use Rattle.number_reader.specs.Answers.{numberAnswer}
 use Rattle.ordered_lines.specs.Answers.{Reads, linesFromG}
-use Rattle.ordered_lines.proofs.Reached.{Reached, was-refused, reached-more, number-reads}
-use Rattle.ordered_lines.proofs.Sheets.{sheet-refused}
-use Rattle.ordered_lines.proofs.lines_from_d.Statement.{statement}
-use Rattle.ordered_lines.proofs.lines_from_d.Tie as tie
+use Rattle.ordered_lines.proofs.Reached.{Reached, was-refused, reached-more}
+use Rattle.reader.proofs.Numbers.{number-reads}
+use Rattle.ordered_lines.proofs.Sheets.{sheet-refused, rows-inside}
+use Rattle.reader.proofs.lines_from_d.Statement.{statement}
+use Rattle.reader.proofs.lines_from_d.Tie as tie
 
 abbrev start : tie.After-distance-line → tie.Start
 start c = c .before .before .before
@@ -49,14 +50,13 @@ add-lines-from-g : tie.Need-add-lines-from-g
 add-lines-from-g c =
     let read = c .before in record { fits = lt-of-le-of-lt (d-read read .within) (start (found read) .good .0 .0) }
 
-lines-from-g-requires : tie.Need-lines-from-g-requires
-lines-from-g-requires c κs = (d-read (c .before) .within, start (found (c .before)) .pre .1)
-
 returns-2 : tie.Need-returns-2
 returns-2 c =
     let read = c .before .before in
     c .lines-from-g .ensures
-    ∙ ap (answered (s (found read))) (sym (then-got (linesFromG (start (found read) .args .n)) (d-read read .gives)))
+    ∙ ap (answered (s (found read)))
+    (rows-inside _ _ _ _ (start (found read) .pre .1) (d-read read .within)
+    ∙ sym (then-got (linesFromG (start (found read) .args .n)) (d-read read .gives)))
 
 pub lines-from-d-spec : {M : Type 1} → statement M
 lines-from-d-spec =
@@ -71,5 +71,5 @@ lines-from-d-spec =
     (λ c κs. search needs)
     returns
     add-lines-from-g
-    lines-from-g-requires
+    (λ c κs. search needs)
     returns-2)
