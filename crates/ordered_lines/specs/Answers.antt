@@ -38,6 +38,7 @@ withClaim n d at gs xs zs =
     claimLine n at andThen λ w.
     done (record { code = codeOf n d gs xs zs w; claimAt = at })
 
+-- The g lines and all that follow.
 abbrev pub linesFromG : (n d : ℕ) → Reader SheetRead
 linesFromG n d =
     generatorLines n firstGeneratorAt andThen λ gs.

@@ -1,5 +1,5 @@
-// The lines of a sheet from the g lines on, one after the other: g, x and z, and w. Each function reads one kind and goes
-// on with the next, or ends the reading with a refusal.
+// The lines of a sheet from the g lines on, one after the other: g, x and z, and w. Each function reads one kind and
+// goes on with the next, or ends the reading with a refusal.
 use code_record::Code;
 use code_record::FIRST_GENERATOR_AT;
 use code_record::LinesReading;
@@ -102,8 +102,8 @@ fn off_form() -> LinesReading
     LinesReading::refused(Lines::Refused(Refusal::Form(FIRST_GENERATOR_AT)))
 }
 
-// The lines from the byte `from` on: g, x, z and w. Where there is no such byte, and where a sheet may not have n qubits,
-// the first of them is off its form.
+// The lines from the byte `from` on: g, x, z and w. Where there is no such byte, and where a sheet may not have n
+// qubits, the first of them is off its form.
 pub fn lines_from_g(s: &[u8], from: usize, n: usize, d: usize) -> LinesReading
     ensures { λ q. ⌜ q ≡ answered (now (s .entry)) (rowsAndClaim from n d (now (s .entry))) ⌝ }
 {

@@ -114,7 +114,8 @@ returns-3 : tie.Need-returns-3
 returns-3 c =
     let line = c .before .before .before in
     sheet-refused _ (c .refused .ensures) (c .before .enum-told .given .1)
-    (inside (line .before) (then-stop (next (line .before)) (was-refused (g-answer line) (c .before .enum-told .given .1))))
+    (inside (line .before)
+    (then-stop (next (line .before)) (was-refused (g-answer line) (c .before .enum-told .given .1))))
 
 add-at : tie.Need-add-at
 add-at c = omega (arith, few (c .before .before))
