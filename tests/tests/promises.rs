@@ -1,5 +1,5 @@
-//! docs/PROMISES.md names definitions, theorems, examples and must-fail edits. Each of them has to be there, and each
-//! must-fail edit has to be named.
+//! docs/PROMISES.md names definitions, theorems, examples, functions and must-fail edits. Each of them has to be there,
+//! and each must-fail edit has to be named.
 use std::collections::BTreeSet;
 use std::fs;
 use std::path::{Path, PathBuf};
@@ -84,4 +84,40 @@ fn each_edit_is_named() {
         left_out.is_empty(),
         "edits that are not named: {left_out:?}"
     );
+}
+
+/// The public functions, each as TYPE::NAME where it stands in an `impl`, else as CRATE::NAME.
+fn public_functions() -> BTreeSet<String> {
+    let mut found = BTreeSet::new();
+    for layer in fs::read_dir(root().join("crates")).unwrap() {
+        let layer = layer.unwrap();
+        let text = fs::read_to_string(layer.path().join("src/lib.rt")).unwrap_or_default();
+        let mut owner = layer.file_name().into_string().unwrap();
+        for line in text.lines() {
+            if let Some(rest) = line.strip_prefix("impl ") {
+                owner = rest.trim_end_matches(" {").to_string();
+            } else if line == "}" {
+                owner = layer.file_name().into_string().unwrap();
+            } else if let Some(rest) = line.trim_start().strip_prefix("pub fn ") {
+                let name = rest.split('(').next().unwrap();
+                found.insert(format!("{owner}::{name}"));
+            }
+        }
+    }
+    found
+}
+
+#[test]
+fn each_function_that_is_named_is_public() {
+    let text = fs::read_to_string(root().join("docs/PROMISES.md")).unwrap();
+    let named: BTreeSet<String> = text
+        .split('`')
+        .skip(1)
+        .step_by(2)
+        .filter(|quoted| quoted.contains("::"))
+        .map(str::to_string)
+        .collect();
+    assert!(named.len() > 30, "found only {} functions", named.len());
+    let missing: Vec<_> = named.difference(&public_functions()).cloned().collect();
+    assert!(missing.is_empty(), "named and not there: {missing:?}");
 }
