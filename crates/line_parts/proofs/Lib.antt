@@ -1,3 +1,2 @@
 pub mod Values
-pub mod Keys
 pub mod LineValues

@@ -12,11 +12,11 @@ use Rattle.refusals.specs.declared.Refusal.{Refusal}
 use Rattle.sheet.specs.Reader.{got, stop, begins, gotOr, isLine, lineOf}
 use Rattle.sheet.specs.Text.{lineFeed}
 use Rattle.sheet.proofs.Line.{nonzero-within}
-use Rattle.line_parts.specs.declared.LineKind.{LineKind}
-use Rattle.line_parts.specs.LineKinds.{kindByte, kindKey, lineKind}
+use Rattle.line_kinds.specs.declared.LineKind.{LineKind}
+use Rattle.line_kinds.specs.LineKinds.{kindByte, kindKey, lineKind}
 use Rattle.line_parts.specs.LineValues.{keyOf, valueFrom}
 use Rattle.line_parts.specs.Values.{upTo}
-use Rattle.line_parts.proofs.Keys.{key-taken, kind-begins, other-begins}
+use Rattle.line_kinds.proofs.Keys.{key-taken, kind-begins, other-begins}
 use Rattle.line_parts.proofs.Values.{few-bytes, many-bytes}
 
 -- A part of m bytes from a place on.

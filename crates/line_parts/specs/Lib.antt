@@ -1,3 +1,2 @@
-pub mod LineKinds
 pub mod Values
 pub mod LineValues

@@ -16,8 +16,8 @@ use Rattle.sheet.specs.Reader.{Parsed, Reader, got, stop, done, continue, inRan
 use Rattle.sheet.specs.Reader.{qubitDigits, qubitLine, distanceLine}
 use Rattle.sheet.specs.Text.{lineFeed}
 use Rattle.sheet.proofs.Reading.{bytes-used, then-stop}
-use Rattle.line_parts.specs.declared.LineKind.{LineKind}
-use Rattle.line_parts.specs.LineKinds.{kindByte, kindKey, lineKind}
+use Rattle.line_kinds.specs.declared.LineKind.{LineKind}
+use Rattle.line_kinds.specs.LineKinds.{kindByte, kindKey, lineKind}
 use Rattle.line_parts.specs.LineValues.{linesOf, valueOr}
 use Rattle.line_parts.specs.Values.{mostDigits}
 use Rattle.line_parts.proofs.LineValues.{line-of-kind, line-of-other}

@@ -2,7 +2,7 @@
 // or the refusal that ends the reading, with the number beside it.
 use code_record::MOST_DISTANCE;
 use code_record::MOST_QUBITS;
-use line_parts::LineKind;
+use line_kinds::LineKind;
 use line_parts::Number;
 use refusals::Lines;
 use refusals::Refusal;
@@ -81,7 +81,7 @@ fn qubit_digits(s: &[u8]) -> usize
 pub fn qubit_line(s: &[u8]) -> NumberLine
     ensures { λ r. ⌜ r ≡ numberAnswer (now (s .entry)) (qubitLine (now (s .entry))) ⌝ }
 {
-    let LineKind::Qubits = line_parts::line_kind(s) else {
+    let LineKind::Qubits = line_kinds::line_kind(s) else {
         return NumberLine::refused(Refusal::Form(1));
     };
     let digits = qubit_digits(s);
@@ -92,7 +92,7 @@ pub fn qubit_line(s: &[u8]) -> NumberLine
 pub fn distance_line(s: &[u8]) -> NumberLine
     ensures { λ r. ⌜ r ≡ numberAnswer (now (s .entry)) (distanceLine (now (s .entry))) ⌝ }
 {
-    let LineKind::Distance = line_parts::line_kind(s) else {
+    let LineKind::Distance = line_kinds::line_kind(s) else {
         return NumberLine::refused(Refusal::Form(2));
     };
     number_line(s, 1, 2, 1, MOST_DISTANCE, Refusal::DistanceRange(2))

@@ -1,28 +1,20 @@
--- The answers for lines with letters: the count of bytes tells where the rest begins, and too many qubits are refused.
-use mathlib.Core.Bool.{true}
+-- Readers within the qubits that a sheet may have, and the line of a family's row as one behind any key.
+use mathlib.Core.Bool.{true, false, cond}
 use mathlib.Core.List.{List}
 use mathlib.Core.Path.{_≡_, ap, sym, _∙_}
 use Prim.Native.Nat.{ℕ, _+_, _<_, _≤_}
+use Prim.Native.String.{String}
 use borrow.Author.Tests.{le-ltb, lt-ltb}
-use lib.ListN.{length, drop}
+use lib.Dec.{ltb}
 use Rattle.letters.specs.Lists.{bytes}
-use Rattle.pauli.specs.declared.Pauli.{Pauli}
 use Rattle.refusals.specs.declared.Family.{Family}
-use Rattle.refusals.specs.declared.Lines.{Lines}
 use Rattle.refusals.specs.declared.Refusal.{Refusal}
 use Rattle.refusals.specs.Families.{rowKey}
 use Rattle.code_record.specs.Record.{mostQubits}
-use Rattle.sheet.specs.Reader.{Parsed, Reader, got, stop, begins, lineOf, readRow, rowLine}
-use Rattle.sheet.proofs.Reading.{bytes-used}
-use Rattle.line_parts.specs.LineValues.{keyOf, linesOf, valueOr}
-use Rattle.line_parts.proofs.Keys.{key-taken, rowKind, row-key}
-use Rattle.row_reader.specs.Answers.{rowBehindKey, withinQubits, rowAnswer}
-
-pub row-read : (s : List ℕ) (used : ℕ) → used ≤ length s → {p : Parsed Pauli} (P : Pauli) → p ≡ got P (drop used s)
-    → record { answer = Lines.Read used; row = P } ≡ rowAnswer s p
-unfolding rowAnswer linesOf valueOr
-row-read s used within P e =
-    ap (λ k. record { answer = Lines.Read k; row = P }) (bytes-used s used within) ∙ ap (rowAnswer s) (sym e)
+use Rattle.sheet.specs.Reader.{Reader, stop, begins, lineOf, readRow, isLine, rowLine}
+use Rattle.line_parts.specs.LineValues.{keyOf}
+use Rattle.line_kinds.proofs.Keys.{key-taken, rowKind, row-key}
+use Rattle.row_reader.specs.Answers.{rowBehindKey, withinQubits}
 
 -- Up to the most qubits, and beyond.
 module _ {A : Type 0} (n at : ℕ) (reader : Reader A) (s : List ℕ) where
@@ -34,7 +26,18 @@ module _ {A : Type 0} (n at : ℕ) (reader : Reader A) (s : List ℕ) where
   unfolding withinQubits
   many-qubits h = rw (lt-ltb mostQubits n h)
 
--- The line of a row, behind the key of its family.
+-- Readers that give the same for these bytes.
+pub within-same : {A : Type 0} (n at : ℕ) (reader other : Reader A) (s : List ℕ) → reader s ≡ other s
+    → withinQubits n at reader s ≡ withinQubits n at other s
+unfolding withinQubits
+within-same n at reader other s e = ap (cond (ltb mostQubits n) (stop (Refusal.Form at))) e
+
+-- The line of a row: it begins with its key, or is off its form.
+pub row-not-begun : (key : String) (n at : ℕ) (s : List ℕ) → begins (bytes key) s ≡ false
+    → rowLine key n at s ≡ stop (Refusal.Form at)
+unfolding rowLine lineOf isLine
+row-not-begun key n at s e = rw e
+
 pub row-line-form : (family : Family) (n at : ℕ) (s : List ℕ) → begins (bytes (rowKey family)) s ≡ true
     → rowLine (rowKey family) n at s ≡ rowBehindKey n at s
 unfolding rowLine keyOf

@@ -20,8 +20,8 @@ use Rattle.refusals.specs.declared.Refusal.{Refusal}
 use Rattle.code_record.specs.Record.{mostQubits}
 use Rattle.sheet.specs.Reader.{Reader, got, stop, gotOr, readEach, readLetters, readRow, lineOf, claimLine}
 use Rattle.sheet.specs.Text.{lineFeed}
-use Rattle.line_parts.specs.declared.LineKind.{LineKind}
-use Rattle.line_parts.specs.LineKinds.{kindKey, lineKind}
+use Rattle.line_kinds.specs.declared.LineKind.{LineKind}
+use Rattle.line_kinds.specs.LineKinds.{kindKey, lineKind}
 use Rattle.line_parts.specs.Values.{upTo}
 use Rattle.line_parts.proofs.Values.{bind-none}
 use Rattle.line_parts.specs.LineValues.{valueFrom}
@@ -51,7 +51,7 @@ module _ (n at : ℕ) (reader : Reader Pauli) (s : List ℕ) where
           many-qubits n at reader s h ∙ ap (λ o. gotOr (Refusal.Form at) o rest) (sym (many h))
       by-count false e = let h = ltb-false mostQubits n e in few-qubits n at reader s h ∙ few h
 
-  refused-within : reader s ≡ stop (Refusal.Form at) → withinQubits n at reader s ≡ stop (Refusal.Form at)
+  pub refused-within : reader s ≡ stop (Refusal.Form at) → withinQubits n at reader s ≡ stop (Refusal.Form at)
   unfolding gotOr
   refused-within e = by-value none s (λ h. e) (λ h. refl)
 

@@ -1,4 +1,3 @@
-pub mod RowForms
 pub mod Progress
 pub mod RowsLeft
 pub mod Counted

@@ -8,17 +8,12 @@ use native.Mathlib.Omega.{arith}
 use Rattle.pauli.specs.declared.Pauli.{Pauli}
 use Rattle.letters.specs.Lists.{bytes}
 use Rattle.refusals.specs.declared.Refusal.{Refusal}
-use Rattle.sheet.specs.Reader.{Reader, got, stop, done, continue, begins, isLine, lineOf}
-use Rattle.sheet.specs.Reader.{rowLine, rowsUpTo}
+use Rattle.sheet.specs.Reader.{Reader, got, stop, done, continue, begins, rowLine, rowsUpTo}
 use Rattle.sheet.proofs.Reading.{then-got, then-stop}
+use Rattle.row_reader.proofs.Answers.{row-not-begun}
 use Rattle.rows_reader.specs.Answers.{rowsLeft}
 
--- A line that does not begin with the key is off its form, so one that has a row begins with it.
-pub row-not-begun : (key : String) (n at : ℕ) (s : List ℕ) → begins (bytes key) s ≡ false
-    → rowLine key n at s ≡ stop (Refusal.Form at)
-unfolding rowLine lineOf isLine
-row-not-begun key n at s e = rw e
-
+-- A line that has a row begins with its key.
 row-begins : (key : String) (n at : ℕ) {row : Pauli} (s rest : List ℕ) → rowLine key n at s ≡ got row rest
     → begins (bytes key) s ≡ true
 row-begins key n at {row} s rest e = by-key (begins (bytes key) s) refl

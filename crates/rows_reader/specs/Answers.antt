@@ -12,22 +12,10 @@ use Rattle.code_record.specs.Record.{rowRoom, filled}
 use Rattle.sheet.specs.Reader.{Parsed, Reader, got, stop, done, continue, _andThen_}
 use Rattle.sheet.specs.Reader.{rowLine, rowsUpTo, logicalLines}
 use Rattle.line_parts.specs.LineValues.{linesOf, valueOr}
-use Rattle.rows_reader.specs.declared.RowRead.{RowRead}
 use Rattle.rows_reader.specs.declared.Gathered.{Gathered}
 use Rattle.rows_reader.specs.declared.RowsAnswer.{RowsAnswer}
 use Rattle.rows_reader.specs.declared.Rows.{Rows}
 use Rattle.rows_reader.specs.declared.Logicals.{Logicals}
-
--- ---- one line
-
-abbrev pub bytesOf : RowRead → ℕ
-bytesOf (RowRead.Got used row) = used
-bytesOf RowRead.OffForm = 0
-
--- What a line was read as, where it is the line `at`.
-abbrev pub rowAt : ℕ → List ℕ → RowRead → Parsed Pauli
-rowAt at s (RowRead.Got used row) = got row (drop used s)
-rowAt at s RowRead.OffForm = stop (Refusal.Form at)
 
 -- ---- lines one after the other
 

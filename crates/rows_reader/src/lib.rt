@@ -4,40 +4,16 @@ use code_record::MOST_QUBITS;
 use code_record::ROW_ROOM;
 use pauli::Pauli;
 use refusals::Family;
-use refusals::Lines;
+use row_reader::RowRead;
 ghost use mathlib.Core.Path.{_≡_};
-ghost use Prim.Native.Nat.{ℕ, _*_, _≤_};
+ghost use Prim.Native.Nat.{_*_, _≤_};
 ghost use lib.ListN.{length};
 ghost use Rattle.code_record.specs.Record.{rowRoom, mostQubits, pairCount};
 ghost use Rattle.refusals.specs.Families.{rowKey};
-ghost use Rattle.sheet.specs.Reader.{rowLine, generatorLines};
+ghost use Rattle.sheet.specs.Reader.{generatorLines};
 ghost use Rattle.row_reader.specs.Answers.{withinQubits};
-ghost use Rattle.rows_reader.specs.Answers.{bytesOf, rowAt, Gathers, before, AnswersRows};
+ghost use Rattle.rows_reader.specs.Answers.{Gathers, before, AnswersRows};
 ghost use Rattle.rows_reader.specs.Answers.{AnswersLogicals, noRows, noLogicals, pairLines};
-
-// What a line is read as: a row, and how many bytes the line took.
-enum RowRead {
-    Got { used: usize, row: Pauli },
-    OffForm,
-}
-
-// The line of a family's row.
-fn row_line(s: &[u8], family: Family, n: usize) -> RowRead
-    requires { ⌜ n ≤ mostQubits ⌝ }
-    ensures { λ r. ⌜ bytesOf r ≤ length (now (s .entry)) ⌝ }
-    ensures { λ r. ⌜ ((at : ℕ) → rowAt at (now (s .entry)) r ≡ rowLine (rowKey family) n at (now (s .entry))) ⌝ }
-{
-    if !line_parts::begins_row(s, family) {
-        return RowRead::OffForm;
-    }
-    let line = row_reader::signed_row(s, n, 0);
-    let answer = line.answer;
-    let Lines::Read { used } = answer else {
-        return RowRead::OffForm;
-    };
-    let row = line.row;
-    RowRead::Got { used, row }
-}
 
 // The rows of lines one after the other, how many they are and the byte behind them.
 struct Gathered {
@@ -58,7 +34,7 @@ fn rows_up_to(s: &[u8], from: usize, family: Family, most: usize, n: usize) -> G
     let mut count = 0;
     let mut end = from;
     while count < most {
-        let RowRead::Got { used: more, row } = row_line(&s[end..], family, n) else {
+        let RowRead::Got { used: more, row } = row_reader::row_line(&s[end..], family, n) else {
             return Gathered { end, count, rows };
         };
         rows[count] = row;
@@ -110,7 +86,7 @@ pub fn generator_lines(s: &[u8], n: usize) -> Rows
     let read = rows_up_to(s, 0, Family::Generator, most, n);
     let used = read.end;
     let count = read.count;
-    if line_parts::begins_row(&s[used..], Family::Generator) {
+    if line_kinds::begins_row(&s[used..], Family::Generator) {
         if count < most {
             return Rows::refused(RowsAnswer::OffForm(count));
         }

@@ -4,8 +4,8 @@ use native.Mathlib.Omega.{arith}
 use borrow.Author.Needs.{needs}
 use Rattle.refusals.specs.declared.Refusal.{Refusal}
 use Rattle.code_record.specs.Record.{mostDistance}
-use Rattle.line_parts.specs.declared.LineKind.{LineKind}
-use Rattle.line_parts.proofs.Keys.{other-kind}
+use Rattle.line_kinds.specs.declared.LineKind.{LineKind}
+use Rattle.line_kinds.proofs.Keys.{other-kind}
 use Rattle.number_reader.proofs.NumberLines.{distance-line-form, number-of-other, number-of-kind}
 use Rattle.number_reader.proofs.distance_line.Statement.{statement}
 use Rattle.number_reader.proofs.distance_line.Tie as tie

@@ -6,8 +6,8 @@ use borrow.Author.Needs.{needs}
 use Rattle.refusals.specs.declared.Refusal.{Refusal}
 use Rattle.code_record.specs.Record.{mostQubits}
 use Rattle.sheet.specs.Reader.{qubitDigits}
-use Rattle.line_parts.specs.declared.LineKind.{LineKind}
-use Rattle.line_parts.proofs.Keys.{other-kind}
+use Rattle.line_kinds.specs.declared.LineKind.{LineKind}
+use Rattle.line_kinds.proofs.Keys.{other-kind}
 use Rattle.number_reader.proofs.NumberLines.{digits-few, qubit-line-form, number-of-other, number-of-kind}
 use Rattle.number_reader.proofs.qubit_line.Statement.{statement}
 use Rattle.number_reader.proofs.qubit_line.Tie as tie

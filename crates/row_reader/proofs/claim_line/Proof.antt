@@ -8,15 +8,13 @@ use borrow.Author.Needs.{needs}
 use lib.ListN.{length}
 use Rattle.code_record.specs.Record.{mostQubits}
 use Rattle.sheet.specs.Reader.{readLetters}
-use Rattle.line_parts.specs.declared.LineKind.{LineKind}
-use Rattle.line_parts.specs.LineKinds.{lineKind}
+use Rattle.line_kinds.specs.declared.LineKind.{LineKind}
+use Rattle.line_kinds.specs.LineKinds.{lineKind}
 use Rattle.line_parts.specs.Values.{rowIn, upTo}
-use Rattle.line_parts.proofs.Keys.{other-kind}
+use Rattle.line_kinds.proofs.Keys.{other-kind}
 use Rattle.line_parts.specs.LineValues.{valueFrom}
 use Rattle.line_parts.proofs.LineValues.{value-within}
-use Rattle.row_reader.specs.Answers.{rowAnswer}
 use Rattle.row_reader.proofs.LetterLines.{claim-other, claim-no-letters, claim-value}
-use Rattle.row_reader.proofs.Answers.{row-read}
 use Rattle.row_reader.proofs.claim_line.Statement.{statement}
 use Rattle.row_reader.proofs.claim_line.Tie as tie
 
@@ -31,20 +29,19 @@ keyed c = sym (c .before .before .line-kind .ensures) ∙ c .enum-told .given .1
 
 returns : tie.Need-returns
 returns c =
-    c .refused .ensures _
-    ∙ ap (rowAnswer _)
-    (sym
-    (claim-other _ _ _
-    (λ e. other-kind LineKind.Claim (c .before .match .keys2) (c .before .before .line-kind .ensures ∙ e))))
+    record {
+      within = omega arith;
+      gives =
+          λ at. sym
+          (claim-other _ at _
+          (λ e. other-kind LineKind.Claim (c .match .keys2) (c .before .line-kind .ensures ∙ e)));
+    }
 
 returns-2 : tie.Need-returns-2
 returns-2 c =
-    let found = c .before .before .before in
-    c .refused2 .ensures _
-    ∙ ap (rowAnswer _)
-    (sym
-    (claim-no-letters _ _ _ (keyed (found .before)) (sym (found .line-letters .ensures)
-    ∙ ap rowIn (c .before .enum-told2 .given .1))))
+    let found = c .before .before in
+    let none = sym (found .line-letters .ensures) ∙ ap rowIn (c .enum-told2 .given .1) in
+    record { within = omega arith; gives = λ at. sym (claim-no-letters _ at _ (keyed (found .before)) none) }
 
 abbrev start-of-row : tie.After-row → tie.Start
 start-of-row c = start (c .before .before .before)
@@ -58,14 +55,17 @@ within : (c : tie.After-row) → start-of-row c .args .n + 2 < length (s (start-
 within c =
     value-within 2 (start-of-row c .args .n) (upTo mostQubits readLetters) (s (start-of-row c)) (letters-are c)
 
-add-t7 : tie.Need-add-t7
-add-t7 c = omega (arith, within (c .before))
+add-t6 : tie.Need-add-t6
+add-t6 c = omega (arith, within (c .before))
 
 returns-3 : tie.Need-returns-3
 returns-3 c =
     let row = c .before in
-    row-read _ _ (omega (arith, within row)) _
-    (claim-value _ _ _ (keyed (row .before .before .before)) (letters-are row))
+    let key = keyed (row .before .before .before) in
+    record {
+      within = omega (arith, within row);
+      gives = λ at. sym (claim-value _ at _ key (letters-are row));
+    }
 
 pub claim-line-spec : {M : Type 1} → statement M
 claim-line-spec =
@@ -73,12 +73,10 @@ claim-line-spec =
     (tie.spec
     (λ c κs. search needs)
     (λ c. search needs)
-    (λ c κs. search needs)
     returns
     (λ c κs. search needs)
     (λ c. search needs)
     (λ c. search needs)
-    (λ c κs. search needs)
     returns-2
-    add-t7
+    add-t6
     returns-3)

@@ -10,7 +10,9 @@ use Rattle.code_record.specs.Record.{rowRoom}
 use Rattle.refusals.specs.Families.{rowKey}
 use Rattle.sheet.specs.Reader.{rowLine}
 use Rattle.sheet.proofs.Parts.{tail-of}
-use Rattle.rows_reader.specs.Answers.{bytesOf, rowAt, rowsLeft, Progress}
+use Rattle.row_reader.specs.Answers.{bytesOf, rowAt, withinQubits}
+use Rattle.row_reader.proofs.Answers.{few-qubits}
+use Rattle.rows_reader.specs.Answers.{rowsLeft, Progress}
 use Rattle.rows_reader.proofs.Progress.{progress-start, progress-row}
 use Rattle.rows_reader.proofs.RowsLeft.{rows-row}
 use Rattle.rows_reader.proofs.rows_up_to.Statement.{statement}
@@ -48,10 +50,13 @@ line-gives : (c : tie.After-row-line Inv-loop μ-loop) (m : ℕ)
     ≡ rowAt m (left (line-at c)) (c .row-line .result)
 line-gives c m =
     let first = start (line-at c) in
+    let reader = rowLine (rowKey (first .args .family)) (first .args .n) m in
     sym
-    (subst (λ t. rowAt m t (c .row-line .result) ≡ rowLine (rowKey (first .args .family)) (first .args .n) m t)
+    (few-qubits (first .args .n) m reader (left (line-at c)) (first .pre .1 .1))
+    ∙ sym
+    (subst (λ t. rowAt m t (c .row-line .result) ≡ withinQubits (first .args .n) m reader t)
     (tail-of (line-at c .loop .end) (s (line-at c)))
-    (c .row-line .ensures .1 m))
+    (c .row-line .ensures .gives m))
 
 -- the row that it has
 abbrev found : tie.After-more Inv-loop μ-loop → tie.After-row-line Inv-loop μ-loop
@@ -62,7 +67,7 @@ row-within c =
     let at = line-at (found c) in
     subst (λ r. bytesOf r ≤ length (left at)) (c .more .given .1)
     (subst (λ t. bytesOf (found c .row-line .result) ≤ length t) (tail-of (at .loop .end) (s at))
-    (found c .row-line .ensures .0))
+    (found c .row-line .ensures .within))
 
 both-within : (c : tie.After-more Inv-loop μ-loop)
     → line-at (found c) .loop .end + c .more .given .0 .0 ≤ length (s (line-at (found c)))

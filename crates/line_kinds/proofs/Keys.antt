@@ -16,11 +16,11 @@ use Rattle.refusals.specs.Families.{rowKey}
 use Rattle.code_record.proofs.Limits.{both}
 use Rattle.sheet.specs.Reader.{begins}
 use Rattle.sheet.proofs.Values.{readByte-byte}
-use Rattle.line_parts.specs.declared.LineKind.{LineKind}
-use Rattle.line_parts.proofs.LineKind.{the-type}
-use Rattle.line_parts.specs.declared.LineKind.the-variants.{Qubits, Distance, Generator, LogicalX, LogicalZ}
-use Rattle.line_parts.specs.declared.LineKind.the-variants.{Claim, Other}
-use Rattle.line_parts.specs.LineKinds.{kindByte, kindKey, kinds, orOther, kindOf, lineKind}
+use Rattle.line_kinds.specs.declared.LineKind.{LineKind}
+use Rattle.line_kinds.proofs.LineKind.{the-type}
+use Rattle.line_kinds.specs.declared.LineKind.the-variants.{Qubits, Distance, Generator, LogicalX, LogicalZ}
+use Rattle.line_kinds.specs.declared.LineKind.the-variants.{Claim, Other}
+use Rattle.line_kinds.specs.LineKinds.{kindByte, kindKey, kinds, orOther, kindOf, lineKind}
 
 kind-of-byte : (k : LineKind) → kindOf (kindByte k) ≡ k
 unfolding kindOf readByte firstOf

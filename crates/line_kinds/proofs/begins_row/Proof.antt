@@ -1,10 +1,10 @@
 -- For each family, the kind of the line is its own, or another.
 use borrow.Author.Needs.{needs}
 use Rattle.refusals.specs.declared.Family.{Family}
-use Rattle.line_parts.specs.declared.LineKind.{LineKind}
-use Rattle.line_parts.proofs.Keys.{other-kind, row-begins, no-row-begins}
-use Rattle.line_parts.proofs.begins_row.Statement.{statement}
-use Rattle.line_parts.proofs.begins_row.Tie as tie
+use Rattle.line_kinds.specs.declared.LineKind.{LineKind}
+use Rattle.line_kinds.proofs.Keys.{other-kind, row-begins, no-row-begins}
+use Rattle.line_kinds.proofs.begins_row.Statement.{statement}
+use Rattle.line_kinds.proofs.begins_row.Tie as tie
 
 returns : tie.Need-returns
 returns c =
