@@ -3,9 +3,12 @@ use letters::Sign;
 use pauli::Pauli;
 use refusals::Family;
 use refusals::Lines;
+use refusals::Refusal;
 ghost use mathlib.Core.Path.{_≡_};
 ghost use Prim.Native.Nat.{_≤_};
 ghost use lib.ListN.{getD};
+ghost use Rattle.refusals.specs.declared.Lines.the-variants.{Refused};
+ghost use Rattle.refusals.specs.declared.Refusal.the-variants.{Form};
 ghost use Rattle.pauli.specs.Product.{identity, samePauli};
 ghost use Rattle.code_record.specs.Record.{mostQubits, pairCount, mostGenerators, generatorsAt};
 ghost use Rattle.code_record.specs.Record.{rowsOf, emptyCode, emptyBeside};
@@ -200,5 +203,12 @@ impl LinesReading {
             claim_at: 0,
             code: Code::empty(),
         }
+    }
+
+    // A reading that ends at a line off its form.
+    pub fn off_form(at: usize) -> LinesReading
+        ensures { λ r. ⌜ r ≡ emptyBeside (Refused (Form at)) ⌝ }
+    {
+        LinesReading::refused(Lines::Refused(Refusal::Form(at)))
     }
 }

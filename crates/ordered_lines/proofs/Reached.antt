@@ -10,13 +10,12 @@ use Rattle.refusals.specs.declared.Lines.{Lines}
 use Rattle.refusals.specs.declared.Refusal.{Refusal}
 use Rattle.pauli.specs.Product.{identity}
 use Rattle.code_record.specs.Record.{mostQubits}
-use Rattle.sheet.specs.Reader.{Parsed, got, stop, done, generatorLines, claimLine}
+use Rattle.sheet.specs.Reader.{Parsed, got, stop, done, generatorLines}
 use Rattle.sheet.specs.Writer.{rowLines}
-use Rattle.sheet.proofs.Consumed.{OfForm, generator-lines-outcome, logical-lines-outcome, claim-line-outcome}
+use Rattle.sheet.proofs.Consumed.{OfForm, generator-lines-outcome, logical-lines-outcome}
 use Rattle.sheet.proofs.Outcome.{Outcome, gets, stops, continue-outcome, Took}
 use Rattle.line_parts.specs.LineValues.{linesOf, valueOr}
-use Rattle.row_reader.specs.declared.RowLine.{RowLine}
-use Rattle.row_reader.specs.Answers.{rowAnswer, withinQubits}
+use Rattle.row_reader.specs.Answers.{withinQubits}
 use Rattle.row_reader.proofs.Answers.{few-qubits}
 use Rattle.rows_reader.specs.declared.Rows.{Rows}
 use Rattle.rows_reader.specs.declared.Logicals.{Logicals}
@@ -71,19 +70,6 @@ module _ {Stop : Refusal → Type 0} (s : List ℕ) where
             ∙ ap (got a) (drop-at (text a) rest (length (text a)) refl);
       }
   reads-of other (stops h) = record { within = omega arith; parses = refl }
-
-  row-reads : {text : Pauli → List ℕ} {Law : Pauli → Type 0} {p : Parsed Pauli} {line : RowLine}
-      → Outcome (Took text Law s) Stop p
-      → line ≡ rowAnswer s p → Reads s (line .answer) (line .row) p
-  unfolding rowAnswer
-  row-reads {p = p} h e = subst (λ line. Reads s (line .answer) (line .row) p) (sym e) (reads-of identity h)
-
--- The line of w.
-pub claim-reads : (n at : ℕ) (s : List ℕ) {line : RowLine} → n ≤ mostQubits
-    → line ≡ rowAnswer s (withinQubits n at (claimLine n at) s)
-    → Reads s (line .answer) (line .row) (claimLine n at s)
-claim-reads n at s few e =
-    row-reads s (claim-line-outcome n at s) (e ∙ ap (rowAnswer s) (few-qubits n at (claimLine n at) s few))
 
 -- ---- the readers of rows
 

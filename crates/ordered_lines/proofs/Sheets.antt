@@ -5,14 +5,16 @@ use Prim.Native.Nat.{ℕ, _+_, _*_, _≤_, _<_}
 use borrow.Author.Tests.{le-ltb, lt-ltb}
 use lib.ListN.{length, drop}
 use Rattle.pauli.specs.declared.Pauli.{Pauli}
-use Rattle.refusals.specs.declared.Lines.{Lines}
-use Rattle.code_record.specs.declared.LinesReading.{LinesReading}
 use Rattle.refusals.specs.declared.Refusal.{Refusal}
-use Rattle.code_record.specs.Record.{mostQubits, firstGeneratorAt, pairCount, codeOf, emptyBeside}
-use Rattle.sheet.specs.Reader.{Parsed, Reader, SheetRead, got, stop, done, continue, answered}
+use Rattle.code_record.specs.Record.{mostQubits, firstGeneratorAt, pairCount, codeOf}
+use Rattle.sheet.specs.Reader.{Parsed, Reader, got, stop, done, continue}
 use Rattle.sheet.specs.Reader.{logicalLines, claimLine, linesAfter}
-use Rattle.sheet.proofs.Reading.{bytes-used, then-got}
+use Rattle.row_reader.proofs.Answers.{few-qubits}
+use Rattle.rows_reader.specs.declared.Rows.{Rows}
+use Rattle.rows_reader.specs.declared.Logicals.{Logicals}
 use Rattle.rows_reader.specs.Answers.{pairLines}
+use Rattle.claim_reader.specs.Claim.{heldCode, claimAfter}
+use Rattle.claim_reader.proofs.Claims.{claim-here}
 use Rattle.ordered_lines.specs.Answers.{withClaim, linesFromG, rowsAndClaim, countedRows, filledLogicals}
 
 -- ---- the lines behind the g lines, with k pairs of logicals
@@ -53,23 +55,32 @@ pairs-first n d at gs k paired s =
     paired
     ∙ in-turn (logicalLines k "x=" n at s) (λ xs. logicalLines k "z=" n (at + k)) (withClaim n d (at + 2 * k) gs)
 
--- The record, as it is held.
-pub claim-read : (n d at : ℕ) (gs xs zs : List Pauli) (s : List ℕ) {r : ℕ} {g x z : List Pauli} {w : Pauli}
-    {rest : List ℕ}
-    → countedRows gs ≡ (r, g) → filledLogicals xs zs ≡ (x, z)
-    → claimLine n at s ≡ got w rest
-    → withClaim n d at gs xs zs s
-    ≡ got (record { code = record { n = n; r = r; d = d; g = g; x = x; z = z; w = w }; claimAt = at }) rest
-unfolding done codeOf
-claim-read n d at gs xs zs s {w = w} {rest = rest} held ls e =
-    then-got (λ w. done (record { code = codeOf n d gs xs zs w; claimAt = at })) e
+-- The record of the rows as their arrays hold them is that of the rows.
+pub claim-of-held : (from n d at : ℕ) (gs xs zs : List Pauli) (generators : Rows) (logicals : Logicals) (s : List ℕ)
+    → countedRows gs ≡ (generators .count, generators .rows) → filledLogicals xs zs ≡ (logicals .x, logicals .z)
+    → n ≤ mostQubits → from ≤ length s
+    → claimAfter from n d at generators logicals s ≡ withClaim n d at gs xs zs (drop from s)
+unfolding codeOf
+claim-of-held from n d at gs xs zs generators logicals s held ls few here =
+    claim-here from n d at generators logicals s here
+    ∙ ap (λ p. continue p (λ w. done (record { code = heldCode n d generators logicals w; claimAt = at })))
+    (few-qubits n at (claimLine n at) (drop from s) few)
     ∙ (λ i.
-    got
+    continue (claimLine n at (drop from s)) (λ w.
+    done
     (record {
-      code = record { n = n; r = held i .0; d = d; g = held i .1; x = ls i .0; z = ls i .1; w = w };
+      code =
+          record {
+            n = n;
+            r = sym held i .0;
+            d = d;
+            g = sym held i .1;
+            x = sym ls i .0;
+            z = sym ls i .1;
+            w = w;
+          };
       claimAt = at;
-    })
-    rest)
+    })))
 
 -- ---- the lines from a byte on
 
@@ -85,18 +96,3 @@ module _ (from n d : ℕ) (s : List ℕ) where
   pub no-such-byte : n ≤ mostQubits → length s < from → rowsAndClaim from n d s ≡ stop (Refusal.Form firstGeneratorAt)
   unfolding rowsAndClaim
   no-such-byte few behind = rw (le-ltb mostQubits n few, lt-ltb (length s) from behind)
-
--- ---- the reading of a whole sheet
-
-module _ (s : List ℕ) {definition : Parsed SheetRead} where
-  pub sheet-refused : {reading : LinesReading} {answer : Lines} {refusal : Refusal} → reading ≡ emptyBeside answer
-      → answer ≡ Lines.Refused refusal → definition ≡ stop refusal → reading ≡ answered s definition
-  unfolding answered
-  sheet-refused r a e = r ∙ ap emptyBeside a ∙ ap (answered s) (sym e)
-
-  pub sheet-read : {used : ℕ} {q : SheetRead} → used ≤ length s → definition ≡ got q (drop used s)
-      → record { answer = Lines.Read used; «claim_at» = q .claimAt; code = q .code } ≡ answered s definition
-  unfolding answered
-  sheet-read {used} {q} h e =
-      ap (λ m. record { answer = Lines.Read m; «claim_at» = q .claimAt; code = q .code }) (bytes-used s used h)
-      ∙ ap (answered s) (sym e)

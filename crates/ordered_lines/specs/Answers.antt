@@ -13,7 +13,6 @@ use Rattle.code_record.specs.Record.{mostQubits, rowRoom, firstGeneratorAt, fil
 use Rattle.sheet.specs.Reader.{Parsed, Reader, SheetRead, got, stop, done, _andThen_, answered}
 use Rattle.sheet.specs.Reader.{generatorLines, claimLine, linesAfter}
 use Rattle.rows_reader.specs.declared.Rows.{Rows}
-use Rattle.rows_reader.specs.declared.Logicals.{Logicals}
 
 -- How many bytes were read.
 abbrev pub usedIn : Lines → ℕ
@@ -64,10 +63,3 @@ filledLogicals xs zs = (filled rowRoom xs, filled rowRoom zs)
 abbrev pub ReadsAfter : List ℕ → ℕ → Rows → (List Pauli → Reader SheetRead) → LinesReading → Type 0
 ReadsAfter s from generators after reading =
     (gs : List Pauli) → countedRows gs ≡ (generators .count, generators .rows) → ReadsOn s from (after gs) reading
-
-abbrev pub ReadsClaim : List ℕ → ℕ → Rows → Logicals → ((gs xs zs : List Pauli) → Reader SheetRead) → LinesReading
-    → Type 0
-ReadsClaim s from generators logicals after reading =
-    (gs xs zs : List Pauli) → countedRows gs ≡ (generators .count, generators .rows)
-    → filledLogicals xs zs ≡ (logicals .x, logicals .z)
-    → ReadsOn s from (after gs xs zs) reading

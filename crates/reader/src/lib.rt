@@ -57,7 +57,7 @@ pub fn read_form(s: &[u8]) -> LinesReading
         return reading;
     };
     if used < s.len() {
-        return LinesReading::refused(Lines::Refused(Refusal::Form(reading.claim_at + 1)));
+        return LinesReading::off_form(reading.claim_at + 1);
     }
     reading
 }

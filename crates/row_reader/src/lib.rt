@@ -3,8 +3,8 @@
 use code_record::MOST_QUBITS;
 use letters::Sign;
 use letters::SignRead;
-use line_parts::Letters;
 use line_kinds::LineKind;
+use line_parts::Letters;
 use pauli::Pauli;
 use refusals::Family;
 ghost use mathlib.Core.Path.{_≡_};

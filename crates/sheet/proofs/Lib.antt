@@ -3,6 +3,7 @@ pub mod Lengths
 pub mod Values
 pub mod Outcome
 pub mod Reading
+pub mod Answered
 pub mod Line
 pub mod Consumed
 pub mod ReadBack

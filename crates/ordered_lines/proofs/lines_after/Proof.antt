@@ -17,7 +17,8 @@ use Rattle.rows_reader.specs.Answers.{pairLines, AnswersLogicals}
 use Rattle.ordered_lines.specs.Answers.{Reads, withClaim}
 use Rattle.ordered_lines.proofs.Reached.{Reached, was-refused, reached-more}
 use Rattle.ordered_lines.proofs.Reached.{the-logicals, logicals-read, logicals-held}
-use Rattle.ordered_lines.proofs.Sheets.{pairs-first, sheet-refused}
+use Rattle.sheet.proofs.Answered.{sheet-refused}
+use Rattle.ordered_lines.proofs.Sheets.{pairs-first, claim-of-held}
 use Rattle.ordered_lines.proofs.lines_after.Statement.{statement}
 use Rattle.ordered_lines.proofs.lines_after.Tie as tie
 
@@ -100,20 +101,19 @@ add-claim-after c =
     let read = c .before .before in
     record { fits = lt-of-le-of-lt (ls-read read .within) (start (found read) .good .0 .0) }
 
-claim-after-requires : tie.Need-claim-after-requires
-claim-after-requires c κs =
-    let read = c .before .before in (ls-read read .within, start (found read) .pre .1 .0)
-
 returns-2 : tie.Need-returns-2
 returns-2 c =
     let read = c .before .before .before in
     let begin = found read in
-    λ gs e. c .claim-after .ensures gs (ls begin .0) (ls begin .1) e
-    (logicals-held (k begin) (n begin) (at begin) (left begin) (logicals begin) (start begin .pre .1 .0)
-    (answers begin))
+    let end = start begin .args .from + read .answer .given .0 .0 in
+    let held = logicals-held (k begin) (n begin) (at begin) (left begin) (logicals begin) (start begin .pre .1 .0)
+    (answers begin) in
+    λ gs e. c .claim-after .ensures
     ∙ ap (answered (s begin))
-    (ap (λ m. next begin m gs (ls begin) (drop (start begin .args .from + read .answer .given .0 .0) (s begin)))
-    (c .before .pair-count .ensures)
+    (claim-of-held end (n begin) (start begin .args .d) (at begin + 2 * c .before .pair-count .result) gs
+    (ls begin .0) (ls begin .1) (start begin .args .generators) (logicals begin) (s begin) e held
+    (start begin .pre .1 .0) (ls-read read .within)
+    ∙ ap (λ m. next begin m gs (ls begin) (drop end (s begin))) (c .before .pair-count .ensures)
     ∙ sym
     (pairs-first (n begin) (start begin .args .d) (at begin) gs (k begin) (ap (λ p. pairCount (n begin) (p .0)) e)
     (left begin)
@@ -136,5 +136,5 @@ lines-after-spec =
     mul-claim-at
     add-claim-at
     add-claim-after
-    claim-after-requires
+    (λ c κs. search needs)
     returns-2)

@@ -19,7 +19,8 @@ use Rattle.rows_reader.specs.Answers.{AnswersRows}
 use Rattle.ordered_lines.specs.Answers.{Reads, linesFromG, rowsAndClaim, countedRows}
 use Rattle.ordered_lines.proofs.Reached.{Reached, was-refused, reached-more}
 use Rattle.ordered_lines.proofs.Reached.{the-generators, generators-read, generators-held}
-use Rattle.ordered_lines.proofs.Sheets.{sheet-refused, rows-inside, too-many-qubits, no-such-byte}
+use Rattle.sheet.proofs.Answered.{sheet-refused}
+use Rattle.ordered_lines.proofs.Sheets.{rows-inside, too-many-qubits, no-such-byte}
 use Rattle.ordered_lines.proofs.lines_from_g.Statement.{statement}
 use Rattle.ordered_lines.proofs.lines_from_g.Tie as tie
 

@@ -13,7 +13,8 @@ use Rattle.number_reader.specs.Answers.{numberAnswer}
 use Rattle.ordered_lines.specs.Answers.{Reads, linesFromG}
 use Rattle.ordered_lines.proofs.Reached.{Reached, was-refused, reached-more}
 use Rattle.reader.proofs.Numbers.{number-reads}
-use Rattle.ordered_lines.proofs.Sheets.{sheet-refused, rows-inside}
+use Rattle.sheet.proofs.Answered.{sheet-refused}
+use Rattle.ordered_lines.proofs.Sheets.{rows-inside}
 use Rattle.reader.proofs.lines_from_d.Statement.{statement}
 use Rattle.reader.proofs.lines_from_d.Tie as tie
 

@@ -36,7 +36,7 @@ unfolding formReading readForm
 returns-2 c =
     let at = c .before .before .before .before in
     let s = start at .args .s .now in
-    c .refused .ensures
+    c .off-form .ensures
     ∙ form-behind s (reading at) (at .answer .given .1) (readLines s) (is-read at) (c .before .before .if1 .taken)
 
 returns-3 : tie.Need-returns-3

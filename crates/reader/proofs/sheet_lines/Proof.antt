@@ -12,7 +12,7 @@ use Rattle.ordered_lines.specs.Answers.{Reads}
 use Rattle.reader.specs.Lines.{linesFromD}
 use Rattle.ordered_lines.proofs.Reached.{Reached, was-read, was-refused}
 use Rattle.reader.proofs.Numbers.{number-reads}
-use Rattle.ordered_lines.proofs.Sheets.{sheet-refused}
+use Rattle.sheet.proofs.Answered.{sheet-refused}
 use Rattle.reader.proofs.sheet_lines.Statement.{statement}
 use Rattle.reader.proofs.sheet_lines.Tie as tie
 
