@@ -25,8 +25,8 @@ returns c =
     let s = c .before .before .before .before .args .s .now in
     form-refused s _ (readLines s) (c .before .before .read-lines .ensures) (c .enum-told .given .1)
 
-add-t7 : tie.Need-add-t7
-add-t7 c =
+add-off-form : tie.Need-add-off-form
+add-off-form c =
     let at = c .before .before .before in
     let s = start at .args .s .now in
     omega (arith, ap (λ x. x .«claim_at») (is-read at), claim-near s (readLines s) (reads-are-lawful s))
@@ -54,7 +54,7 @@ read-form-spec =
     (λ c. search needs)
     (λ c. search needs)
     returns
-    add-t7
+    add-off-form
     (λ c κs. search needs)
     returns-2
     returns-3)
