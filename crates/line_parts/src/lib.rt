@@ -1,5 +1,5 @@
-// What the parts of a sheet's line behind its key are read as: words, which are numbers and letters, and the line feed at
-// its end.
+// What the parts of a sheet's line behind its key are read as: words, which are numbers or letters, and the line feed
+// at its end.
 use code_record::MOST_QUBITS;
 use letters::Letter;
 use letters::LetterRead;

@@ -1,5 +1,5 @@
-// The readers of the lines with letters, of a signed row and of w. Each is lent the bytes that remain, and does not know
-// on which line they begin.
+// The readers of the lines with letters, of a signed row and of w. Each is lent the bytes that remain, and does not
+// know on which line they begin.
 use code_record::MOST_QUBITS;
 use letters::Sign;
 use letters::SignRead;
