@@ -111,7 +111,7 @@ fn independence(code: Code) -> Elimination
 pub fn eliminate(code: Code) -> Elimination
     ensures { λ r. ⌜ r ≡ elimination code ⌝ }
 {
-    if !code.within_limits() {
+    if !record_limits::within_limits(code) {
         return refused(Refusal::RecordLimits);
     }
     let clash = clash(code);
