@@ -15,7 +15,7 @@ use Rattle.letters.specs.Lists.{allOf}
 use Rattle.pauli.specs.Product.{identity, samePauli, sameMasks, hasPhase}
 use Rattle.code_record.specs.Record.{mostQubits, isRow, areRows}
 use Rattle.code_record.proofs.Limits.{all-first}
-use Rattle.code_record.proofs.RowLimits.{eqb-swap}
+use Rattle.code_record.proofs.Tests.{eqb-swap}
 
 -- ---- one row
 

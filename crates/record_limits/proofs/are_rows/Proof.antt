@@ -11,7 +11,7 @@ use Rattle.pauli.specs.declared.Pauli.{Pauli}
 use Rattle.pauli.specs.Product.{identity, samePauli}
 use Rattle.code_record.specs.Record.{rowRoom, rowsOf, isRow, areRows}
 use Rattle.code_record.proofs.ArrayLengths.{sized-of, room-of}
-use Rattle.code_record.proofs.RowLimits.{passed, failed}
+use Rattle.code_record.proofs.Tests.{passed, failed}
 use Rattle.record_limits.proofs.RowLimits.{used-at, unused-at, areRows-behind-end}
 use borrow.Author.Needs.{needs}
 use Rattle.record_limits.proofs.are_rows.Statement.{statement}

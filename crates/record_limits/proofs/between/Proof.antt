@@ -1,7 +1,7 @@
 -- Whether a number is between two bounds: they are tried in turn.
 use borrow.Author.Tests.{le-leb, lt-leb}
 use Rattle.code_record.specs.Record.{between}
-use Rattle.code_record.proofs.RowLimits.{and-true-l, and-false-l}
+use Rattle.code_record.proofs.Tests.{and-true-l, and-false-l}
 use Rattle.record_limits.proofs.between.Statement.{statement}
 use Rattle.record_limits.proofs.between.Tie as tie
 

@@ -2,7 +2,7 @@
 use mathlib.Core.Path.{sym, _∙_}
 use Prim.Native.Nat.{_%_}
 use borrow.Author.Tests.{eq-eqb, ne-eqb}
-use Rattle.code_record.proofs.RowLimits.{and-true-l, and-false-l}
+use Rattle.code_record.proofs.Tests.{and-true-l, and-false-l}
 use Rattle.record_limits.proofs.RowLimits.{same-identity}
 use Rattle.record_limits.proofs.is_identity.Statement.{statement}
 use Rattle.record_limits.proofs.is_identity.Tie as tie

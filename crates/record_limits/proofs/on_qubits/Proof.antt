@@ -4,7 +4,7 @@ use mathlib.Core.Path.{ap, _∙_}
 use borrow.Author.Tests.{lt-ltb, le-ltb}
 use lib.Dec.{ltb}
 use Rattle.code_record.specs.Record.{onQubits}
-use Rattle.code_record.proofs.RowLimits.{and-true-l, and-false-l}
+use Rattle.code_record.proofs.Tests.{and-true-l, and-false-l}
 use Rattle.record_limits.proofs.RowLimits.{shifted-one}
 use borrow.Author.Needs.{needs}
 use Rattle.record_limits.proofs.on_qubits.Statement.{statement}

@@ -7,7 +7,7 @@ use Prim.Native.Nat.{_≤_}
 use Rattle.code_record.specs.declared.Code.{Code}
 use Rattle.code_record.specs.Record.{mostQubits, mostDistance, mostGenerators, logicalCount, between, areRows}
 use Rattle.code_record.proofs.Limits.{between-bounds}
-use Rattle.code_record.proofs.RowLimits.{passed, failed}
+use Rattle.code_record.proofs.Tests.{passed, failed}
 use Rattle.record_limits.proofs.JoinedTests.{outside, claim-decides}
 use borrow.Author.Needs.{needs}
 use Rattle.record_limits.proofs.within_limits.Statement.{statement}
