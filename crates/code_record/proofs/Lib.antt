@@ -1,5 +1,5 @@
 pub mod Examples
 pub mod Limits
 pub mod Filled
-pub mod RowLimits
+pub mod Tests
 pub mod ArrayLengths

@@ -1,6 +1,6 @@
 -- What the limits of a record say: the test of each limit, taken from the one test that joins them, as a fact on the
 -- record's numbers and rows.
-use mathlib.Core.Path.{_≡_, refl, ap, sym, _∙_}
+use mathlib.Core.Path.{_≡_, refl, sym, _∙_}
 use mathlib.Core.Bool.{Bool, true, false, _&&_, _||_, and-eq-true-iff, and-false, false≢true}
 use mathlib.Core.List.{List, _∷_}
 use mathlib.Core.Logic.{_⊎_, inl, inr}
@@ -85,7 +85,7 @@ pub record Tests (c : Code) : Type 0 where
   pub zRows : areRows (c .n) (logicalCount c) (c .z) ≡ true
   pub claim : isClaim (c .n) (c .w) ≡ true
 
-tests : (c : Code) → withinLimits c ≡ true → Tests c
+pub tests : (c : Code) → withinLimits c ≡ true → Tests c
 unfolding withinLimits
 tests c h7 =
     let h6 = both _ _ h7 in
@@ -103,25 +103,6 @@ tests c h7 =
       zRows = h5 .1;
       claim = h6 .1;
     }
-
--- One test that fails puts the record outside its limits.
-pub outside : (c : Code) {t : Bool} → t ≡ false → (Tests c → t ≡ true) → false ≡ withinLimits c
-outside c e test = by-limits (withinLimits c) refl
-  where
-    by-limits : (w : Bool) → withinLimits c ≡ w → false ≡ w
-    by-limits true h = absurd (false≢true (sym e ∙ test (tests c h)))
-    by-limits false h = refl
-
--- Where all the other tests hold, that of the claim decides.
-pub claim-decides : (c : Code) → between 2 mostQubits (c .n) ≡ true
-    → between 1 (mostGenerators (c .n)) (c .r) ≡ true → between 1 mostDistance (c .d) ≡ true
-    → areRows (c .n) (c .r) (c .g) ≡ true → areRows (c .n) (logicalCount c) (c .x) ≡ true
-    → areRows (c .n) (logicalCount c) (c .z) ≡ true → isClaim (c .n) (c .w) ≡ withinLimits c
-unfolding withinLimits
-claim-decides c n r d g x z = ap (λ t. t && isClaim (c .n) (c .w)) (sym (all (all (all (all (all n r) d) g) x) z))
-  where
-    all : {a b : Bool} → a ≡ true → b ≡ true → (a && b) ≡ true
-    all {a} {b} p q = and-eq-true-iff a b .1 (p, q)
 
 pub limits : (c : Code) → withinLimits c ≡ true → Limits c
 unfolding mostGenerators

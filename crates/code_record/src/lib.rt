@@ -1,18 +1,15 @@
-// The record of a code, its limits, and the answer of the calls that read it.
-use letters::Sign;
+// The record of a code, its sizes, and the answer of the calls that read it.
 use pauli::Pauli;
 use refusals::Family;
 use refusals::Lines;
 use refusals::Refusal;
 ghost use mathlib.Core.Path.{_≡_};
-ghost use Prim.Native.Nat.{_≤_};
 ghost use lib.ListN.{getD};
+ghost use Rattle.pauli.specs.Product.{identity};
 ghost use Rattle.refusals.specs.declared.Lines.the-variants.{Refused};
 ghost use Rattle.refusals.specs.declared.Refusal.the-variants.{Form};
-ghost use Rattle.pauli.specs.Product.{identity, samePauli};
-ghost use Rattle.code_record.specs.Record.{mostQubits, pairCount, mostGenerators, generatorsAt};
+ghost use Rattle.code_record.specs.Record.{pairCount, mostGenerators, generatorsAt};
 ghost use Rattle.code_record.specs.Record.{rowsOf, emptyCode, emptyBeside};
-ghost use Rattle.code_record.specs.Record.{between, onQubits, isRow, isClaim, areRows, withinLimits};
 
 // How many rows of each family a record has room for.
 pub const ROW_ROOM: usize = 32;
@@ -96,93 +93,6 @@ impl Code {
     {
         FIRST_GENERATOR_AT
     }
-
-    // Whether the record is within its limits.
-    pub fn within_limits(self) -> bool
-        ensures { λ r. ⌜ r ≡ withinLimits self ⌝ }
-    {
-        let n = self.n;
-        let r = self.r;
-        if !between(2, MOST_QUBITS, n) {
-            return false;
-        }
-        if !between(1, most_generators(n), r) {
-            return false;
-        }
-        if !between(1, MOST_DISTANCE, self.d) {
-            return false;
-        }
-        if !self.are_rows(Family::Generator, r) {
-            return false;
-        }
-        let k = pair_count(n, r);
-        if !self.are_rows(Family::LogicalX, k) {
-            return false;
-        }
-        if !self.are_rows(Family::LogicalZ, k) {
-            return false;
-        }
-        is_claim(self.w, n)
-    }
-
-    // Whether the first `count` rows of a family are rows of n qubits, and the others +I.
-    fn are_rows(self, family: Family, count: usize) -> bool
-        requires { ⌜ self .n ≤ mostQubits ⌝ }
-        ensures { λ r. ⌜ r ≡ areRows (self .n) count (rowsOf family self) ⌝ }
-    {
-        let n = self.n;
-        let mut place: usize = 0;
-        while place < ROW_ROOM {
-            let p = self.row(family, place);
-            if place < count {
-                if !is_row(p, n) {
-                    return false;
-                }
-            } else if !is_identity(p) {
-                return false;
-            }
-            place += 1;
-        }
-        true
-    }
-}
-
-fn between(low: usize, high: usize, m: usize) -> bool
-    ensures { λ r. ⌜ r ≡ between low high m ⌝ }
-{
-    low <= m && m <= high
-}
-
-// Whether a Pauli has no mask bit above qubit n.
-fn on_qubits(p: Pauli, n: usize) -> bool
-    requires { ⌜ n ≤ mostQubits ⌝ }
-    ensures { λ r. ⌜ r ≡ onQubits n p ⌝ }
-{
-    let end = 1u32 << n;
-    p.a < end && p.b < end
-}
-
-// Whether it is a signed row of n qubits.
-fn is_row(p: Pauli, n: usize) -> bool
-    requires { ⌜ n ≤ mostQubits ⌝ }
-    ensures { λ r. ⌜ r ≡ isRow n p ⌝ }
-{
-    on_qubits(p, n) && p.is_signed_row()
-}
-
-// Whether it is a row of n qubits with sign +, as w is.
-fn is_claim(p: Pauli, n: usize) -> bool
-    requires { ⌜ n ≤ mostQubits ⌝ }
-    ensures { λ r. ⌜ r ≡ isClaim n p ⌝ }
-{
-    on_qubits(p, n) && p.has_sign(Sign::Plus)
-}
-
-// Whether it is +I.
-fn is_identity(p: Pauli) -> bool
-    ensures { λ r. ⌜ r ≡ samePauli identity p ⌝ }
-{
-    p.p % 4 == 0 && (p.a == 0 && p.b == 0)
 }
 
 // An enum holds no array, so the record stands beside the answer: all numbers 0 and all rows +I where it is a refusal.

@@ -2,5 +2,3 @@ pub mod CheckOrder
 pub mod Numbers
 pub mod Passed
 pub mod Steps
-pub mod AnyRow
-pub mod Walk

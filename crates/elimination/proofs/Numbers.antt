@@ -6,7 +6,8 @@ use Prim.Native.Nat.{ℕ}
 use Rattle.pauli.specs.declared.Pauli.{Pauli}
 use Rattle.refusals.specs.declared.Refusal.{Refusal}
 use Rattle.stabilizer.proofs.Theorems.{canonical-refusal-numbers}
-use Rattle.elimination.specs.Answers.{checkedRefusal, eliminated, elimination}
+use Rattle.commutation.specs.Answers.{checkedRefusal}
+use Rattle.elimination.specs.Answers.{eliminated, elimination}
 use Rattle.elimination.specs.Statements.{EliminationRefusalNumbers}
 
 pub eliminated-refusal : (fault : Option Refusal) (n : ℕ) (hs : List Pauli)

@@ -1,6 +1,7 @@
 -- 7 and 8, row by row: the canonical generators of the rows so far, which are independent, tell what the next row is.
 use mathlib.Core.Bool.{Bool, true, false, cond}
 use mathlib.Core.List.{List, []}
+use mathlib.Core.Logic.{inl}
 use mathlib.Core.Option.{Option, none, some}
 use mathlib.Core.Path.{_≡_, refl, ap, ap₂, sym, subst, _∙_}
 use Prim.Native.Nat.{ℕ, _+_, _<_, _≤_}
@@ -21,6 +22,7 @@ use Rattle.stabilizer.proofs.Generated.{whole, Commute, Commuting}
 use Rattle.stabilizer.proofs.Independent.{Independent, independent-none, independent-more}
 use Rattle.stabilizer.proofs.StabilizerRows.{Rows}
 use Rattle.stabilizer.proofs.Reduction.{canonical-more}
+use Rattle.stabilizer.proofs.Walk.{Left, taken-more, fault-start, fault-at, fault-end}
 use Rattle.reduced_rows.specs.declared.Kind.{Kind}
 use Rattle.reduced_rows.specs.declared.Kind.the-variants.{Independent as IsIndependent, PlusIdentity, MinusIdentity}
 use Rattle.reduced_rows.specs.declared.ReducedRows.{ReducedRows}
@@ -28,7 +30,6 @@ use Rattle.reduced_rows.specs.Rows.{rowsIn, reducedOf}
 use Rattle.reduced_rows.specs.Step.{kindOf, addition}
 use Rattle.reduced_rows.proofs.RowKinds.{independent-left, independent-joins}
 use Rattle.reduced_rows.proofs.Rows.{rows-of}
-use Rattle.elimination.proofs.Walk.{Left, taken-more, fault-start, fault-at, fault-end}
 
 -- ---- the fault of a kind
 
@@ -81,7 +82,7 @@ module _ (n line : ℕ) (rows : List Pauli) (count : ℕ) where
     stepped-count few = omega (arith, ap (λ r. r .count) (s .held), s .independent .count, length-take place rows)
 
     pub stepped-end : count ≤ place → none ≡ firstFault dependence [] line (take count rows)
-    stepped-end end = sym (fault-end dependence rows count place line end) ∙ s .left
+    stepped-end end = sym (fault-end dependence rows count place line (inl end)) ∙ s .left
 
     -- One row more, of rows of n qubits that commute.
     module _ (room : count ≤ length rows) (areRows : Rows n (take count rows))
@@ -135,7 +136,7 @@ module _ (n line : ℕ) (rows : List Pauli) (count : ℕ) where
           ∙ ap (λ f. f then Left dependence rows count (place + 1) line)
           (sym (dependence-reduced n (take place rows) (line + place) (getD rows place identity)
           (s .independent .stabilizer) row ∙ kind-fault (line + place) Q))
-          ∙ sym (fault-at dependence rows count place line few room) ∙ s .left
+          ∙ sym (fault-at dependence rows count place line few inside) ∙ s .left
 
       pub stepped-fault : {kind′ : Kind} {refusal : Refusal} → kind ≡ kind′
           → kindFault (line + place) kind′ ≡ some refusal

@@ -9,13 +9,8 @@ use Rattle.code_record.specs.Record.{generators, generatorsAt}
 use Rattle.stabilizer.specs.Canonical.{canonicalGenerators}
 use Rattle.stabilizer.specs.Checks.{firstFault, dependence, groupFault}
 use Rattle.reduced_rows.specs.Rows.{reducedOf}
-use Rattle.elimination.specs.declared.Checked.{Checked}
+use Rattle.commutation.specs.declared.Checked.{Checked}
 use Rattle.elimination.specs.declared.Elimination.{Elimination}
-
--- The refusal that an answer carries, where it is one.
-abbrev pub checkedRefusal : Checked → Option Refusal
-checkedRefusal Checked.Passed = none
-checkedRefusal (Checked.Refused refusal) = some refusal
 
 -- The canonical generators where there is no fault.
 unfoldable pub eliminated : Option Refusal → ℕ → List Pauli → Elimination

@@ -10,8 +10,9 @@ use Rattle.sheet.specs.Statements.{Among}
 use Rattle.stabilizer.specs.Canonical.{reducesToIdentity}
 use Rattle.stabilizer.specs.Group.{inGroupUpToPhase}
 use Rattle.reduced_rows.specs.Rows.{rowsIn}
-use Rattle.elimination.specs.declared.Checked.{Checked}
-use Rattle.elimination.specs.Answers.{checkedRefusal, elimination}
+use Rattle.commutation.specs.declared.Checked.{Checked}
+use Rattle.commutation.specs.Answers.{checkedRefusal}
+use Rattle.elimination.specs.Answers.{elimination}
 
 -- Of a record that passes the checks, the canonical generators contain a Pauli exactly where it is in the group, phase
 -- aside: where some selection's product has its masks.

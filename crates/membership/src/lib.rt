@@ -1,6 +1,6 @@
 // Membership in the group of a record's generators, with its sign.
 use code_record::Code;
-use elimination::Checked;
+use commutation::Checked;
 use letters::Sign;
 use pauli::Pauli;
 use reduced_rows::Kind;

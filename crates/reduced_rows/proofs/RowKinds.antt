@@ -9,7 +9,7 @@ use Rattle.pauli.specs.declared.Pauli.{Pauli}
 use Rattle.pauli.specs.Product.{identity, modulo4, sameMasks, samePauli, hasPhase}
 use Rattle.code_record.specs.Record.{rowRoom}
 use Rattle.code_record.proofs.Limits.{both}
-use Rattle.code_record.proofs.RowLimits.{eqb-swap}
+use Rattle.code_record.proofs.Tests.{eqb-swap}
 use Rattle.stabilizer.specs.Canonical.{cleared, reduced, reducesToIdentity, insertByPivot, added}
 use Rattle.stabilizer.specs.Checks.{minusIdentity}
 use Rattle.stabilizer.proofs.Echelon.{modulo4-masks}

@@ -12,7 +12,7 @@ use Rattle.code_record.specs.Record.{rowRoom, filled}
 use Rattle.stabilizer.specs.Canonical.{cleared, reduced}
 use Rattle.reduced_rows.specs.declared.ReducedRows.{ReducedRows}
 use Rattle.reduced_rows.specs.Rows.{rowsIn, reducedOf}
-use Rattle.reduced_rows.proofs.FirstRows.{taken-at, taken-end}
+use Rattle.stabilizer.proofs.FirstRows.{taken-at, taken-end}
 
 abbrev pub value : ℕ → ℕ → List Pauli → ReducedRows
 value n count rows = record { n = n; count = count; rows = rows }

@@ -3,6 +3,7 @@ pub mod Columns
 pub mod Echelon
 pub mod Examples
 pub mod Faults
+pub mod FirstRows
 pub mod Generated
 pub mod Independent
 pub mod Members
@@ -11,3 +12,4 @@ pub mod StabilizerRows
 pub mod Tests
 pub mod Theorems
 pub mod Untouched
+pub mod Walk

@@ -7,7 +7,7 @@ use crate::written::Writer;
 use crate::written::write_thrice;
 use code_record::Code;
 use code_record::pair_count;
-use elimination::Checked;
+use commutation::Checked;
 use membership::Membership;
 use pauli::Pauli;
 use reduced_rows::ReducedRows;

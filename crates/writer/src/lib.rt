@@ -76,7 +76,7 @@ pub fn write_sheet(code: Code, out: &mut [u8]) -> Written
     ensures { λ r. ⌜ r ≡ (writeSheet code (now (out .entry))) .answer ⌝ }
     ensures { λ _. ⌜ now (out .exit) ≡ (writeSheet code (now (out .entry))) .buffer ⌝ }
 {
-    if !code.within_limits() {
+    if !record_limits::within_limits(code) {
         return Written::Refused(Refusal::RecordLimits);
     }
     if out.len() < sheet_length(code) {

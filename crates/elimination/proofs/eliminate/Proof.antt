@@ -4,9 +4,9 @@ use mathlib.Core.List.{[]}
 use mathlib.Core.Option.{none}
 use mathlib.Core.Path.{_≡_, ap, sym, _∙_}
 use Rattle.code_record.specs.Record.{generators, generatorsAt, withinLimits}
-use Rattle.code_record.proofs.RowLimits.{passed, failed}
+use Rattle.code_record.proofs.Tests.{passed, failed}
 use Rattle.stabilizer.specs.Checks.{firstFault, clash}
-use Rattle.elimination.specs.Answers.{checkedRefusal}
+use Rattle.commutation.specs.Answers.{checkedRefusal}
 use Rattle.elimination.proofs.CheckOrder.{outside-limits, clashing, clash-free}
 use borrow.Author.Needs.{needs}
 use Rattle.elimination.proofs.eliminate.Statement.{statement}
@@ -18,20 +18,18 @@ within c = passed (c .before .within-limits .ensures) (c .if1 .left)
 -- 6 finds nothing.
 passes : (c : tie.After-enum-told) → let code = c .before .before .before .before .before .args .code in
     none ≡ firstFault clash [] (generatorsAt code) (generators code)
-passes c = ap checkedRefusal (sym (c .enum-told .given .1)) ∙ c .before .before .clash .ensures
+passes c = ap checkedRefusal (sym (c .enum-told .given .1)) ∙ c .before .before .generators-commute .ensures
 
 returns : tie.Need-returns
 returns c = c .refused .ensures
     ∙ outside-limits _ (failed (c .before .before .within-limits .ensures) (c .before .if1 .taken))
 
-clash-requires : tie.Need-clash-requires
-clash-requires c κs = within c
-
 returns-2 : tie.Need-returns-2
 returns-2 c =
     let told = c .before in
     let check = told .before .before in
-    clashing _ (within (check .before)) (told .enum-told2 .given .1) (c .empty .ensures) (check .clash .ensures)
+    clashing _ (within (check .before)) (told .enum-told2 .given .1) (c .empty .ensures)
+    (check .generators-commute .ensures)
 
 independence-requires : tie.Need-independence-requires
 independence-requires c κs = (within (c .before .before .before), sym (passes c))
@@ -46,7 +44,7 @@ eliminate-spec =
     (λ c κs. search needs)
     (λ c κs. search needs)
     returns
-    clash-requires
+    (λ c κs. search needs)
     (λ c. search needs)
     (λ c. search needs)
     (λ c κs. search needs)

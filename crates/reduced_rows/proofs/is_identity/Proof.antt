@@ -1,7 +1,7 @@
 -- A Pauli is I, phase aside, where both masks are 0; they are tried in turn.
 use borrow.Author.Tests.{eq-eqb, ne-eqb}
 use Rattle.pauli.specs.Product.{sameMasks}
-use Rattle.code_record.proofs.RowLimits.{and-true-l, and-false-l}
+use Rattle.code_record.proofs.Tests.{and-true-l, and-false-l}
 use Rattle.reduced_rows.proofs.is_identity.Statement.{statement}
 use Rattle.reduced_rows.proofs.is_identity.Tie as tie
 

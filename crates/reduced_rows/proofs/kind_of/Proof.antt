@@ -1,6 +1,6 @@
 -- What a row was, from what is left of it: independent where a mask is not 0, else -I or +I by the phase.
 use borrow.Author.Needs.{needs}
-use Rattle.code_record.proofs.RowLimits.{passed, failed}
+use Rattle.code_record.proofs.Tests.{passed, failed}
 use Rattle.reduced_rows.proofs.RowKinds.{kind-independent, kind-minus, kind-plus}
 use Rattle.reduced_rows.proofs.kind_of.Statement.{statement}
 use Rattle.reduced_rows.proofs.kind_of.Tie as tie

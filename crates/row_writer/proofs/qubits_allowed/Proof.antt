@@ -1,7 +1,7 @@
 -- Whether a code may have n qubits: the two bounds are tried in turn.
 use borrow.Author.Tests.{le-leb, lt-leb}
 use Rattle.code_record.specs.Record.{between}
-use Rattle.code_record.proofs.RowLimits.{and-true-l, and-false-l}
+use Rattle.code_record.proofs.Tests.{and-true-l, and-false-l}
 use Rattle.row_writer.proofs.qubits_allowed.Statement.{statement}
 use Rattle.row_writer.proofs.qubits_allowed.Tie as tie
 

@@ -5,7 +5,7 @@ use native.Mathlib.Omega.{arith}
 use lib.ListN.{length}
 use Rattle.code_record.specs.Record.{mostQubits}
 use Rattle.code_record.proofs.Limits.{between-bounds}
-use Rattle.code_record.proofs.RowLimits.{passed, failed}
+use Rattle.code_record.proofs.Tests.{passed, failed}
 use Rattle.row_writer.specs.Lines.{rowLineText, writeRow}
 use Rattle.row_writer.proofs.Lines.{length-rowLineText, outside-limits, too-short, has-room}
 use borrow.Author.Needs.{needs}

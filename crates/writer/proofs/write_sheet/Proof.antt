@@ -6,7 +6,7 @@ use native.Mathlib.Omega.{arith}
 use lib.ListN.{length}
 use Rattle.refusals.specs.declared.Written.{Written}
 use Rattle.code_record.specs.Record.{withinLimits}
-use Rattle.code_record.proofs.RowLimits.{passed, failed}
+use Rattle.code_record.proofs.Tests.{passed, failed}
 use Rattle.sheet.specs.Text.{untouched}
 use Rattle.sheet.specs.Writer.{sheetText}
 use Rattle.writer.proofs.Sheet.{outside-limits, too-short, has-room}

@@ -7,8 +7,7 @@ use Rattle.pauli.specs.Product.{identity}
 use Rattle.code_record.specs.declared.Code.{Code}
 use Rattle.refusals.specs.declared.Family.{Family}
 use Rattle.code_record.specs.Record.{rowsOf}
-use Rattle.code_record.proofs.ArrayLengths.{sized-of}
-use Rattle.code_record.proofs.RowLimits.{room-of}
+use Rattle.code_record.proofs.ArrayLengths.{sized-of, room-of}
 use borrow.Author.Needs.{needs}
 use Rattle.code_record.proofs.Code.row.Statement.{statement}
 use Rattle.code_record.proofs.Code.row.Tie as tie

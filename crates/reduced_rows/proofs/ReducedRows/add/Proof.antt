@@ -1,7 +1,7 @@
 -- The elimination step: what is left of the row joins the rows where it is more than a phase and the array has room;
 -- otherwise they stay.
 use mathlib.Core.Logic.{⊎-elim}
-use Rattle.code_record.proofs.RowLimits.{passed, failed}
+use Rattle.code_record.proofs.Tests.{passed, failed}
 use Rattle.reduced_rows.proofs.RowKinds.{step-dependent, step-full, step-joins}
 use borrow.Author.Needs.{needs}
 use Rattle.reduced_rows.proofs.ReducedRows.add.Statement.{statement}

@@ -9,31 +9,33 @@ use native.Mathlib.Omega.{arith}
 use lib.ListN.{length, drop}
 use Rattle.pauli.specs.declared.Pauli.{Pauli}
 use Rattle.pauli.specs.Product.{identity, samePauli}
 use Rattle.code_record.specs.Record.{rowRoom, rowsOf, isRow, areRows}
-use Rattle.code_record.proofs.ArrayLengths.{sized-of}
-use Rattle.code_record.proofs.RowLimits.{passed, failed, used-at, unused-at, areRows-behind-end, room-of}
+use Rattle.code_record.proofs.ArrayLengths.{sized-of, room-of}
+use Rattle.code_record.proofs.Tests.{passed, failed}
+use Rattle.record_limits.proofs.RowLimits.{used-at, unused-at, areRows-behind-end}
 use borrow.Author.Needs.{needs}
-use Rattle.code_record.proofs.Code.are_rows.Statement.{statement}
-use Rattle.code_record.proofs.Code.are_rows.Tie as tie
+use Rattle.record_limits.proofs.are_rows.Statement.{statement}
+use Rattle.record_limits.proofs.are_rows.Tie as tie
 
 abbrev Inv-loop : tie.InvT-loop
-Inv-loop self family count n place₀ place =
-    (length (rowsOf family self) ≡ rowRoom) × (place ≤ rowRoom)
-    × (areRows n count (rowsOf family self) ≡ areRows n (count - place) (drop place (rowsOf family self)))
+Inv-loop code family count place₀ place =
+    (length (rowsOf family code) ≡ rowRoom) × (place ≤ rowRoom)
+    × (areRows (code .n) count (rowsOf family code)
+    ≡ areRows (code .n) (count - place) (drop place (rowsOf family code)))
 
 abbrev μ-loop : tie.MeasureT-loop
-μ-loop self family count n place₀ place = rowRoom - place
+μ-loop code family count place₀ place = rowRoom - place
 
 -- ---- a turn: the row at its place is tested, and the rows behind it are left
 
 abbrev n : tie.After-row Inv-loop μ-loop → ℕ
-n c = c .before .before .before .args .self .n
+n c = c .before .before .before .args .code .n
 
 abbrev count : tie.After-row Inv-loop μ-loop → ℕ
 count c = c .before .before .before .args .count
 
 abbrev rows : tie.After-row Inv-loop μ-loop → List Pauli
-rows c = rowsOf (c .before .before .before .args .family) (c .before .before .before .args .self)
+rows c = rowsOf (c .before .before .before .args .family) (c .before .before .before .args .code)
 
 abbrev place : tie.After-row Inv-loop μ-loop → ℕ
 place c = c .before .before .loop .place
@@ -58,9 +60,9 @@ loop-holds : tie.Need-loop-holds Inv-loop μ-loop
 loop-holds c =
     let a = c .args in
     let all : a .count ≡ a .count - 0 = omega arith in (
-      room-of (a .self) (sized-of (a .self) (c .good .0)) (a .family),
+      room-of (a .code) (sized-of (a .code) (c .good .0)) (a .family),
       omega arith,
-      ap (λ m. areRows (a .self .n) m (rowsOf (a .family) (a .self))) all,
+      ap (λ m. areRows (a .code .n) m (rowsOf (a .family) (a .code))) all,
     )
 
 returns : tie.Need-returns Inv-loop μ-loop

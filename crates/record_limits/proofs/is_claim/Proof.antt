@@ -1,10 +1,10 @@
 -- Whether a Pauli may be w: the masks are tried first, then the sign.
 use mathlib.Core.Path.{sym, _∙_}
 use Rattle.code_record.specs.Record.{isClaim}
-use Rattle.code_record.proofs.RowLimits.{and-true-l, and-false-l}
+use Rattle.code_record.proofs.Tests.{and-true-l, and-false-l}
 use borrow.Author.Needs.{needs}
-use Rattle.code_record.proofs.is_claim.Statement.{statement}
-use Rattle.code_record.proofs.is_claim.Tie as tie
+use Rattle.record_limits.proofs.is_claim.Statement.{statement}
+use Rattle.record_limits.proofs.is_claim.Tie as tie
 
 returns : tie.Need-returns
 unfolding isClaim

@@ -8,10 +8,10 @@ use Rattle.pauli.specs.declared.Pauli.{Pauli}
 use Rattle.letters.specs.Lists.{anyOf}
 use Rattle.pauli.specs.Product.{identity, anticommutes}
 use Rattle.code_record.proofs.ArrayLengths.{sized-of}
-use Rattle.elimination.proofs.AnyRow.{any-here, any-later, any-none}
+use Rattle.commutation.proofs.AnyRow.{any-here, any-later, any-none}
 use borrow.Author.Needs.{needs}
-use Rattle.elimination.proofs.clashes.Statement.{statement}
-use Rattle.elimination.proofs.clashes.Tie as tie
+use Rattle.commutation.proofs.clashes.Statement.{statement}
+use Rattle.commutation.proofs.clashes.Tie as tie
 
 abbrev Inv-loop : tie.InvT-loop
 Inv-loop place code p earlier₀ earlier =

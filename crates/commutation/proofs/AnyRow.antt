@@ -8,8 +8,8 @@ use lib.ListN.{length, take, drop, getD}
 use Rattle.pauli.specs.declared.Pauli.{Pauli}
 use Rattle.letters.specs.Lists.{anyOf}
 use Rattle.pauli.specs.Product.{identity}
+use Rattle.stabilizer.proofs.FirstRows.{taken-at, taken-end}
 use Rattle.stabilizer.proofs.Tests.{any-cons}
-use Rattle.reduced_rows.proofs.FirstRows.{taken-at, taken-end}
 
 module _ (test : Pauli → Bool) (rows : List Pauli) (count place : ℕ) where
   any-by : {t : Bool} → place < count → place < length rows → test (getD rows place identity) ≡ t

@@ -1,7 +1,7 @@
 -- A check over the first rows of an array, row by row: what it finds from a place on is what it finds at that row, or
 -- else from the next place on.
 use mathlib.Core.List.{List, [], _∷_, _++_}
-use mathlib.Core.Logic.{inl}
+use mathlib.Core.Logic.{_⊎_}
 use mathlib.Core.Option.{Option, none}
 use mathlib.Core.Path.{_≡_, ap, ap₂, sym, _∙_}
 use Prim.Native.Nat.{ℕ, _+_, _<_, _≤_}
@@ -13,8 +13,8 @@ use Rattle.pauli.specs.declared.Pauli.{Pauli}
 use Rattle.pauli.specs.Product.{identity}
 use Rattle.refusals.specs.declared.Refusal.{Refusal}
 use Rattle.refusals.specs.Refusals.{_then_}
 use Rattle.stabilizer.specs.Checks.{firstFault}
-use Rattle.reduced_rows.proofs.FirstRows.{taken-at, taken-end}
+use Rattle.stabilizer.proofs.FirstRows.{taken-at, taken-end}
 
 -- One row more.
 pub taken-more : (rows : List Pauli) (place : ℕ) → place < length rows
@@ -27,12 +27,11 @@ module _ (check : List Pauli → ℕ → Pauli → Option Refusal) (rows : List 
   abbrev pub Left : Option Refusal
   Left = firstFault check (take place rows) (at + place) (drop place (take count rows))
 
-  pub fault-at : place < count → count ≤ length rows
+  pub fault-at : place < count → place < length rows
       → Left ≡ (check (take place rows) (at + place) (getD rows place identity)
       then firstFault check (take (place + 1) rows) (at + (place + 1)) (drop (place + 1) (take count rows)))
   unfolding firstFault
-  fault-at few room =
-      let inside : place < length rows = omega arith in
+  fault-at few inside =
       ap (firstFault check (take place rows) (at + place)) (taken-at rows count place few inside)
       ∙ ap₂ (λ before line. check (take place rows) (at + place)
       (getD rows place identity) then firstFault check before line (drop (place + 1) (take count rows)))
@@ -43,6 +42,6 @@ module _ (check : List Pauli → ℕ → Pauli → Option Refusal) (rows : List 
       ap (λ i. firstFault check (take i rows) (at + i) (drop i (take count rows))) first
       ∙ ap (λ i. firstFault check [] i (take count rows)) (omega arith)
 
-  pub fault-end : count ≤ place → Left ≡ none
+  pub fault-end : (count ≤ place) ⊎ (length rows ≤ place) → Left ≡ none
   unfolding firstFault
-  fault-end end = ap (firstFault check (take place rows) (at + place)) (taken-end rows count place (inl end))
+  fault-end end = ap (firstFault check (take place rows) (at + place)) (taken-end rows count place end)

@@ -1,13 +1,11 @@
--- The tests of rows as the code makes them: one operand of `&&` after the other, the masks against a shifted one, and
--- the rows of a family place by place.
-use mathlib.Core.Bool.{Bool, true, false, not, _&&_, and-assoc}
+-- The tests of rows as the code makes them: the masks against a shifted one, and the rows of a family place by place.
+use mathlib.Core.Bool.{Bool, true, _&&_, and-assoc}
 use mathlib.Core.List.{List, [], _∷_}
-use mathlib.Core.Path.{_≡_, refl, ap, sym, _∙_}
+use mathlib.Core.Path.{_≡_, refl, ap, _∙_}
 use Prim.Native.Nat.{ℕ, zero, suc, _+_, _-_, _*_, _%_, _^_, _<_, _≤_}
 use native.Mathlib.Nat.{one-mul}
 use native.Mathlib.Numerals.{add-one}
 use native.Mathlib.Omega.{arith}
-use borrow.Author.Tests.{not-true, not-false, eq-eqb, ne-eqb, eqb-true, eqb-false}
 use lib.Dec.{eqb}
 use lib.ListN.{length, take, drop, getD, drop-of-length-le}
 use lib.Pow.{shl-exact}
@@ -15,33 +13,9 @@ use lib.Seq.{drop-cons}
 use Rattle.pauli.specs.declared.Pauli.{Pauli}
 use Rattle.letters.specs.Lists.{allOf}
 use Rattle.pauli.specs.Product.{identity, samePauli, sameMasks, hasPhase}
+use Rattle.code_record.specs.Record.{mostQubits, isRow, areRows}
 use Rattle.code_record.proofs.Limits.{all-first}
-use Rattle.code_record.specs.declared.Code.{Code}
-use Rattle.refusals.specs.declared.Family.{Family}
-use Rattle.refusals.specs.declared.Family.the-variants.{Generator, LogicalX, LogicalZ}
-use Rattle.code_record.specs.Record.{mostQubits, rowsOf, rowRoom, isRow, areRows, Sized}
-
--- ---- `a && b`: b where a holds, a where it does not
-
-pub and-true-l : {a : Bool} (b : Bool) → a ≡ true → b ≡ (a && b)
-and-true-l b e = ap (λ t. t && b) (sym e)
-
-pub and-false-l : {a : Bool} (b : Bool) → a ≡ false → a ≡ (a && b)
-and-false-l b e = e ∙ ap (λ t. t && b) (sym e)
-
--- What a test says, where its negation was asked.
-pub passed : {r t : Bool} → r ≡ t → not r ≡ false → t ≡ true
-passed {r} e h = sym e ∙ not-false r h
-
-pub failed : {r t : Bool} → r ≡ t → not r ≡ true → t ≡ false
-failed {r} e h = sym e ∙ not-true r h
-
-pub eqb-swap : (m k : ℕ) → eqb m k ≡ eqb k m
-eqb-swap m k = swapped (eqb m k) refl
-  where
-    swapped : (b : Bool) → eqb m k ≡ b → eqb m k ≡ eqb k m
-    swapped true e = e ∙ sym (eq-eqb k m (sym (eqb-true m k e)))
-    swapped false e = e ∙ sym (ne-eqb k m (λ h. eqb-false m k e (sym h)))
+use Rattle.code_record.proofs.Tests.{eqb-swap}
 
 -- ---- one row
 
@@ -56,11 +30,6 @@ same-identity P =
     ∙ ap (λ t. eqb (P .p % 4) 0 && (eqb (P .a) 0 && t)) (eqb-swap 0 (P .b))
 
 -- ---- the rows of a family
-
-pub room-of : (c : Code) → Sized c → (family : Family) → length (rowsOf family c) ≡ rowRoom
-room-of c sized Generator = sized .roomG
-room-of c sized LogicalX = sized .roomX
-room-of c sized LogicalZ = sized .roomZ
 
 module _ (n : ℕ) where
   areRows-cons-used : (m : ℕ) (P : Pauli) (rows : List Pauli)

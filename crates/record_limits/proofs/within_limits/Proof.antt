@@ -4,18 +4,19 @@
 use mathlib.Core.Bool.{true}
 use mathlib.Core.Path.{_≡_, ap, _∙_}
 use Prim.Native.Nat.{_≤_}
 use Rattle.code_record.specs.declared.Code.{Code}
 use Rattle.code_record.specs.Record.{mostQubits, mostDistance, mostGenerators, logicalCount, between, areRows}
-use Rattle.code_record.proofs.Limits.{between-bounds, outside, claim-decides}
-use Rattle.code_record.proofs.RowLimits.{passed, failed}
+use Rattle.code_record.proofs.Limits.{between-bounds}
+use Rattle.code_record.proofs.Tests.{passed, failed}
+use Rattle.record_limits.proofs.JoinedTests.{outside, claim-decides}
 use borrow.Author.Needs.{needs}
-use Rattle.code_record.proofs.Code.within_limits.Statement.{statement}
-use Rattle.code_record.proofs.Code.within_limits.Tie as tie
+use Rattle.record_limits.proofs.within_limits.Statement.{statement}
+use Rattle.record_limits.proofs.within_limits.Tie as tie
 
 -- ---- n
 
 abbrev codeN : tie.Else1 → Code
-codeN c = c .before .before .args .self
+codeN c = c .before .before .args .code
 
 heldN : (c : tie.Else1) → between 2 mostQubits (codeN c .n) ≡ true
 heldN c = passed (c .before .between .ensures) (c .if1 .left)
@@ -28,8 +29,9 @@ most c = between-bounds _ _ _ (heldN c) .1
 toldR : (c : tie.After-between2)
     → c .between2 .result ≡ between 1 (mostGenerators (codeN (c .before .before) .n)) (codeN (c .before .before) .r)
 toldR c =
-    c .between2 .ensures
-    ∙ ap (λ most. between 1 most (codeN (c .before .before) .r)) (c .before .most-generators .ensures)
+    let given : c .between2 .result ≡ between 1 (c .before .most-generators .result) (codeN (c .before .before) .r) =
+    c .between2 .ensures in
+    given ∙ ap (λ most. between 1 most (codeN (c .before .before) .r)) (c .before .most-generators .ensures)
 
 abbrev nOfR : tie.Else2 → tie.Else1
 nOfR c = c .before .before .before

@@ -3,11 +3,12 @@ use mathlib.Core.Bool.{_&&_}
 use mathlib.Core.Path.{ap, _∙_}
 use borrow.Author.Tests.{lt-ltb, le-ltb}
 use lib.Dec.{ltb}
 use Rattle.code_record.specs.Record.{onQubits}
-use Rattle.code_record.proofs.RowLimits.{and-true-l, and-false-l, shifted-one}
+use Rattle.code_record.proofs.Tests.{and-true-l, and-false-l}
+use Rattle.record_limits.proofs.RowLimits.{shifted-one}
 use borrow.Author.Needs.{needs}
-use Rattle.code_record.proofs.on_qubits.Statement.{statement}
-use Rattle.code_record.proofs.on_qubits.Tie as tie
+use Rattle.record_limits.proofs.on_qubits.Statement.{statement}
+use Rattle.record_limits.proofs.on_qubits.Tie as tie
 
 returns : tie.Need-returns
 unfolding onQubits

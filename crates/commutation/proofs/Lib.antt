@@ -1,0 +1,2 @@
+pub mod AnyRow
+pub mod Numbers

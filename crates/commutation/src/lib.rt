@@ -1,0 +1,55 @@
+// Check 6 over the generators of a record, which are compared two by two: each has to commute with those before it.
+use code_record::Code;
+use code_record::ROW_ROOM;
+use refusals::Family;
+use refusals::Refusal;
+ghost use mathlib.Core.List.{[]};
+ghost use mathlib.Core.Path.{_≡_};
+ghost use Prim.Native.Nat.{_<_};
+ghost use lib.ListN.{take, getD};
+ghost use Rattle.letters.specs.Lists.{anyOf};
+ghost use Rattle.pauli.specs.Product.{identity, anticommutes};
+ghost use Rattle.code_record.specs.Record.{rowRoom, generators, generatorsAt};
+ghost use Rattle.stabilizer.specs.Checks.{firstFault, clash};
+ghost use Rattle.commutation.specs.Answers.{checkedRefusal};
+
+// The answer of the checks of a record's generators.
+pub enum Checked {
+    Passed,
+    Refused(Refusal),
+}
+
+// Whether the generator at a place anticommutes with an earlier one.
+fn clashes(code: Code, place: usize) -> bool
+    requires { ⌜ place < rowRoom ⌝ }
+    ensures { λ r. ⌜ r ≡ anyOf (anticommutes (getD (code .g) place identity)) (take place (code .g)) ⌝ }
+{
+    let p = code.g[place];
+    let mut earlier: usize = 0;
+    while earlier < place {
+        if !p.commutes(code.g[earlier]) {
+            return true;
+        }
+        earlier += 1;
+    }
+    false
+}
+
+// Whether the generators of a record commute: 6 at the first that anticommutes with an earlier one. Where r is above
+// the room for rows, all places are tried.
+pub fn generators_commute(code: Code) -> Checked
+    ensures { λ r. ⌜ checkedRefusal r ≡ firstFault clash [] (generatorsAt code) (generators code) ⌝ }
+{
+    let first = code.generators_at();
+    let mut place: usize = 0;
+    while place < ROW_ROOM && place < code.r {
+        if clashes(code, place) {
+            return Checked::Refused(Refusal::GeneratorsAnticommute(
+                first + place,
+                Family::Generator,
+            ));
+        }
+        place += 1;
+    }
+    Checked::Passed
+}

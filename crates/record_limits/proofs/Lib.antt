@@ -1,0 +1,2 @@
+pub mod RowLimits
+pub mod JoinedTests
