@@ -8,7 +8,6 @@ use lib.Seq.{drop-drop, drop-at}
 use Rattle.pauli.specs.declared.Pauli.{Pauli}
 use Rattle.refusals.specs.declared.Lines.{Lines}
 use Rattle.refusals.specs.declared.Refusal.{Refusal}
-use Rattle.pauli.specs.Product.{identity}
 use Rattle.code_record.specs.Record.{mostQubits}
 use Rattle.sheet.specs.Reader.{Parsed, got, stop, done, generatorLines}
 use Rattle.sheet.specs.Writer.{rowLines}

@@ -3,6 +3,7 @@ use mathlib.Core.List.{List}
 use mathlib.Core.Path.{_≡_, ap, sym, subst, _∙_}
 use Prim.Native.Nat.{ℕ, _+_, _≤_}
 use lib.ListN.{length, drop, replicate}
+use lib.Seq.{drop-drop}
 use Rattle.pauli.specs.declared.Pauli.{Pauli}
 use Rattle.pauli.specs.Product.{identity}
 use Rattle.refusals.specs.declared.Lines.{Lines}
@@ -14,8 +15,9 @@ use Rattle.line_parts.specs.LineValues.{linesOf, valueOr}
 use Rattle.rows_reader.specs.declared.Rows.{Rows}
 use Rattle.rows_reader.specs.declared.RowsAnswer.{RowsAnswer}
 use Rattle.rows_reader.specs.declared.Logicals.{Logicals}
-use Rattle.rows_reader.specs.Answers.{Held, before, linesAt, rowsAnswer, noRows}
+use Rattle.rows_reader.specs.Answers.{before, linesAt, rowsAnswer, noRows}
 use Rattle.rows_reader.specs.Answers.{pairLines, logicalsAnswer, noLogicals}
+use Rattle.rows_reader.proofs.Counted.{Held}
 
 -- ---- g lines
 
@@ -33,7 +35,7 @@ module _ {r : Rows} {answer : RowsAnswer} (none : r ≡ noRows answer) where
       ∙ ap (rowsAnswer s) (sym e)
 
 pub rows-given : {s : List ℕ} {used count : ℕ} {rows : List Pauli} {p : Parsed (List Pauli)}
-    → used ≤ length s → Held rowRoom s used count rows p → (Lines.Read used, count, rows) ≡ rowsAnswer s p
+    → used ≤ length s → Held s used count rows p → (Lines.Read used, count, rows) ≡ rowsAnswer s p
 unfolding rowsAnswer linesOf valueOr
 rows-given {s} {used} within h =
     (λ i. (Lines.Read (bytes-used s used within i), sym (h .counted) i, h .held i))
@@ -65,7 +67,7 @@ module _ (k n at : ℕ) (s : List ℕ) where
   x-refused e = then-stop with-z e
 
   module _ {used count : ℕ} {x-rows : List Pauli}
-      (x : Held rowRoom s used count x-rows (logicalLines k "x=" n at s)) where
+      (x : Held s used count x-rows (logicalLines k "x=" n at s)) where
     to-z : pairLines k n at s ≡ with-z (x .read) (drop used s)
     unfolding pairLines
     to-z = then-got with-z (x .gives)
@@ -75,12 +77,12 @@ module _ (k n at : ℕ) (s : List ℕ) where
     z-refused e = to-z ∙ then-stop (λ zs. done (x .read, zs)) e
 
     pub pairs-given : {end z-count : ℕ} {z-rows : List Pauli}
-        → Held rowRoom s end z-count z-rows (logicalLines k "z=" n (at + k) (drop used s))
-        → end ≤ length s
-        → (Lines.Read end, x-rows, z-rows) ≡ logicalsAnswer s (pairLines k n at s)
+        → Held (drop used s) end z-count z-rows (logicalLines k "z=" n (at + k) (drop used s))
+        → used + end ≤ length s
+        → (Lines.Read (used + end), x-rows, z-rows) ≡ logicalsAnswer s (pairLines k n at s)
     unfolding logicalsAnswer linesOf valueOr done
     pairs-given {end} z within =
-        let whole : pairLines k n at s ≡ got (x .read, z .read) (drop end s) =
-        to-z ∙ then-got (λ zs. done (x .read, zs)) (z .gives) in
-        (λ i. (Lines.Read (bytes-used s end within i), x .held i, z .held i))
+        let whole : pairLines k n at s ≡ got (x .read, z .read) (drop (used + end) s) =
+        to-z ∙ then-got (λ zs. done (x .read, zs)) (z .gives) ∙ ap (got (x .read, z .read)) (drop-drop end used s) in
+        (λ i. (Lines.Read (bytes-used s (used + end) within i), x .held i, z .held i))
         ∙ ap (logicalsAnswer s) (sym whole)

@@ -1,4 +1,4 @@
-pub mod Progress
 pub mod RowsLeft
+pub mod Gathers
 pub mod Counted
 pub mod Answered

@@ -1,57 +1,18 @@
 -- What the readers of rows answer, in the terms of the sheet's definitions.
-use mathlib.Core.List.{List, [], _++_}
+use mathlib.Core.List.{List, []}
 use mathlib.Core.Path.{_≡_}
-use Prim.Native.Nat.{ℕ, _+_, _-_, _≤_, _<_}
-use Prim.Native.String.{String}
-use lib.ListN.{length, drop, replicate}
+use Prim.Native.Nat.{ℕ, _+_}
+use lib.ListN.{length, replicate}
 use Rattle.pauli.specs.declared.Pauli.{Pauli}
 use Rattle.pauli.specs.Product.{identity}
 use Rattle.refusals.specs.declared.Lines.{Lines}
 use Rattle.refusals.specs.declared.Refusal.{Refusal}
 use Rattle.code_record.specs.Record.{rowRoom, filled}
-use Rattle.sheet.specs.Reader.{Parsed, Reader, got, stop, done, continue, _andThen_}
-use Rattle.sheet.specs.Reader.{rowLine, rowsUpTo, logicalLines}
+use Rattle.sheet.specs.Reader.{Parsed, Reader, done, _andThen_, logicalLines}
 use Rattle.line_parts.specs.LineValues.{linesOf, valueOr}
-use Rattle.rows_reader.specs.declared.Gathered.{Gathered}
 use Rattle.rows_reader.specs.declared.RowsAnswer.{RowsAnswer}
 use Rattle.rows_reader.specs.declared.Rows.{Rows}
 use Rattle.rows_reader.specs.declared.Logicals.{Logicals}
-
--- ---- lines one after the other
-
--- The rows read so far stand before those that the rest gives.
-unfoldable pub prepended : List Pauli → Parsed (List Pauli) → Parsed (List Pauli)
-prepended read p = continue p (λ rows. done (read ++ rows))
-
--- The reader of the lines that are left after some.
-unfoldable pub rowsLeft : String → ℕ → ℕ → ℕ → ℕ → Reader (List Pauli)
-rowsLeft key n most at count = rowsUpTo (most - count) key n (at + count)
-
--- Rows that are read one after the other, into an array with room for so many. `R count` reads what is left behind the
--- first `count`, from the byte `used` on.
-pub record Progress (room : ℕ) (R : ℕ → Reader (List Pauli)) (s : List ℕ) (from : ℕ) (rows : List Pauli)
-    (count used : ℕ) : Type 0 where
-  pub read : List Pauli
-  pub held : rows ≡ filled room read
-  pub counted : length read ≡ count
-  pub so-far : R 0 (drop from s) ≡ prepended read (R count (drop used s))
-
--- Lines from a byte on are read until one is off its form or so many are there, whichever line is the first.
-pub record Gathers (s : List ℕ) (from : ℕ) (key : String) (n most : ℕ) (r : Gathered) : Type 0 where
-  pub few : r .count ≤ most
-  pub within : r .end ≤ length s
-  pub progress : (at : ℕ) → Progress rowRoom (rowsLeft key n most at) s from (r .rows) (r .count) (r .end)
-  pub ended : r .count < most → (at : ℕ) → rowLine key n at (drop (r .end) s) ≡ stop (Refusal.Form at)
-
--- The rows that a definition gives are in an array, so many of them, and what is left begins at a place.
-pub record Held (room : ℕ) (s : List ℕ) (used count : ℕ) (rows : List Pauli) (definition : Parsed (List Pauli))
-    : Type 0 where
-  pub read : List Pauli
-  pub held : rows ≡ filled room read
-  pub counted : length read ≡ count
-  pub gives : definition ≡ got read (drop used s)
-
--- ---- what the public calls answer
 
 -- How many lines were read before the one that is refused.
 abbrev pub before : RowsAnswer → ℕ

@@ -4,45 +4,13 @@ use code_record::MOST_QUBITS;
 use code_record::ROW_ROOM;
 use pauli::Pauli;
 use refusals::Family;
-use row_reader::RowRead;
 ghost use mathlib.Core.Path.{_≡_};
 ghost use Prim.Native.Nat.{_*_, _≤_};
-ghost use lib.ListN.{length};
-ghost use Rattle.code_record.specs.Record.{rowRoom, mostQubits, pairCount};
-ghost use Rattle.refusals.specs.Families.{rowKey};
+ghost use Rattle.code_record.specs.Record.{rowRoom, pairCount};
 ghost use Rattle.sheet.specs.Reader.{generatorLines};
 ghost use Rattle.row_reader.specs.Answers.{withinQubits};
-ghost use Rattle.rows_reader.specs.Answers.{Gathers, before, AnswersRows};
-ghost use Rattle.rows_reader.specs.Answers.{AnswersLogicals, noRows, noLogicals, pairLines};
-
-// The rows of lines one after the other, how many they are and the byte behind them.
-struct Gathered {
-    end: usize,
-    count: usize,
-    rows: [Pauli; ROW_ROOM],
-}
-
-// The lines of a family's rows from the byte `from` on, until one is off its form or `most` are read.
-fn rows_up_to(s: &[u8], from: usize, family: Family, most: usize, n: usize) -> Gathered
-    requires { ⌜ from ≤ length (now s) ⌝ }
-    requires { ⌜ most ≤ rowRoom ⌝ }
-    requires { ⌜ n ≤ mostQubits ⌝ }
-    ensures { λ r. ⌜ Gathers (now (s .entry)) from (rowKey family) n most r ⌝ }
-{
-    let one = Pauli::identity();
-    let mut rows = [one; ROW_ROOM];
-    let mut count = 0;
-    let mut end = from;
-    while count < most {
-        let RowRead::Got { used: more, row } = row_reader::row_line(&s[end..], family, n) else {
-            return Gathered { end, count, rows };
-        };
-        rows[count] = row;
-        count += 1;
-        end += more;
-    }
-    Gathered { end, count, rows }
-}
+ghost use Rattle.rows_reader.specs.Answers.{before, AnswersRows, AnswersLogicals};
+ghost use Rattle.rows_reader.specs.Answers.{noRows, noLogicals, pairLines};
 
 // Lines of rows were read, and took so many bytes; or one is refused, behind so many that were read.
 pub enum RowsAnswer {
@@ -83,7 +51,7 @@ pub fn generator_lines(s: &[u8], n: usize) -> Rows
         return Rows::refused(RowsAnswer::OffForm(0));
     }
     let most = code_record::most_generators(n);
-    let read = rows_up_to(s, 0, Family::Generator, most, n);
+    let read = gathered_rows::rows_up_to(s, Family::Generator, most, n);
     let used = read.end;
     let count = read.count;
     if line_kinds::begins_row(&s[used..], Family::Generator) {
@@ -133,18 +101,19 @@ pub fn logical_lines(s: &[u8], n: usize, r: usize) -> Logicals
         return Logicals::off_form(0);
     }
     let k = code_record::pair_count(n, r);
-    let xs = rows_up_to(s, 0, Family::LogicalX, k, n);
+    let xs = gathered_rows::rows_up_to(s, Family::LogicalX, k, n);
     if xs.count < k {
         return Logicals::off_form(xs.count);
     }
-    let zs = rows_up_to(s, xs.end, Family::LogicalZ, k, n);
+    let end = xs.end;
+    let zs = gathered_rows::rows_up_to(&s[end..], Family::LogicalZ, k, n);
     if zs.count < k {
         return Logicals::off_form(k + zs.count);
     }
     let x = xs.rows;
     let z = zs.rows;
     Logicals {
-        answer: RowsAnswer::Read { used: zs.end },
+        answer: RowsAnswer::Read { used: end + zs.end },
         x,
         z,
     }

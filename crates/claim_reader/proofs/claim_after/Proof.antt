@@ -1,5 +1,4 @@
 -- There is no such byte; or the line is off its form; or w is read, and the record holds all.
-use mathlib.Core.List.{List}
 use mathlib.Core.Path.{refl, subst}
 use Prim.Native.Nat.{_+_, _≤_}
 use native.Mathlib.Nat.{lt-of-le-of-lt}

@@ -1,20 +1,22 @@
 -- The rows are gathered; then what stands behind them is looked at, and their count.
 use mathlib.Core.List.{List}
 use mathlib.Core.Path.{_≡_, refl, ap, sym, subst, _∙_}
-use Prim.Native.Nat.{ℕ, _<_, _≤_}
+use Prim.Native.Nat.{ℕ, _<_, _≤_, min}
 use native.Mathlib.Omega.{arith}
 use borrow.Author.Needs.{needs}
-use lib.ListN.{drop}
+use lib.ListN.{length, drop}
 use Rattle.letters.specs.Lists.{bytes}
 use Rattle.refusals.specs.declared.Lines.{Lines}
 use Rattle.refusals.specs.declared.Refusal.{Refusal}
-use Rattle.code_record.specs.Record.{rowRoom, mostGenerators}
+use Rattle.code_record.specs.Record.{rowRoom, mostQubits, mostGenerators}
 use Rattle.sheet.specs.Reader.{begins, generatorLines}
 use Rattle.sheet.proofs.Parts.{tail-of}
 use Rattle.row_reader.specs.Answers.{withinQubits}
 use Rattle.row_reader.proofs.Answers.{few-qubits, many-qubits}
-use Rattle.rows_reader.specs.declared.Gathered.{Gathered}
-use Rattle.rows_reader.specs.Answers.{Gathers, rowsAnswer}
+use Rattle.gathered_rows.specs.declared.Gathered.{Gathered}
+use Rattle.gathered_rows.specs.InTurn.{gathered}
+use Rattle.rows_reader.specs.Answers.{rowsAnswer}
+use Rattle.rows_reader.proofs.Gathers.{Gathers, gathers}
 use Rattle.rows_reader.proofs.Counted.{generators-off-form, generators-too-many, generators-none}
 use Rattle.rows_reader.proofs.Counted.{generators-read}
 use Rattle.rows_reader.proofs.Answered.{rows-before, rows-none, rows-given}
@@ -36,17 +38,28 @@ read c = c .rows-up-to .result
 most : (c : tie.After-rows-up-to) → c .before .most-generators .result ≡ mostGenerators (n c)
 most c = c .before .most-generators .ensures
 
-gathers : (c : tie.After-rows-up-to) → Gathers (s c) 0 "g=" (n c) (mostGenerators (n c)) (read c)
-gathers c = subst (λ m. Gathers (s c) 0 "g=" (n c) m (read c)) (most c) (c .rows-up-to .ensures)
+few-qubits-here : (c : tie.After-rows-up-to) → n c ≤ mostQubits
+few-qubits-here c = c .before .before .if1 .left
+
+-- There is room for as many as are read.
+room : (c : tie.After-rows-up-to) → min (c .before .most-generators .result) rowRoom ≡ mostGenerators (n c)
+unfolding mostGenerators
+room c = omega (arith, most c, few-qubits-here c)
+
+is-gathered : (c : tie.After-rows-up-to) → Gathers (s c) "g=" (n c) (mostGenerators (n c)) (read c)
+is-gathered c =
+    subst (Gathers (s c) "g=" (n c) (mostGenerators (n c)))
+    (sym (c .rows-up-to .ensures ∙ ap (λ m. gathered m "g=" (n c) (s c)) (room c)))
+    (gathers "g=" (n c) (few-qubits-here c) (mostGenerators (n c)) (s c))
 
 few : (c : tie.After-rows-up-to) → read c .count ≤ rowRoom
 unfolding mostGenerators
-few c = omega (arith, gathers c .few, c .before .before .if1 .left)
+few c = omega (arith, is-gathered c .few, few-qubits-here c)
 
 -- the definition, of no more qubits than a sheet may have
 within : (c : tie.After-rows-up-to) (at : ℕ)
     → withinQubits (n c) at (generatorLines (n c) at) (s c) ≡ generatorLines (n c) at (s c)
-within c at = few-qubits (n c) at (generatorLines (n c) at) (s c) (c .before .before .if1 .left)
+within c at = few-qubits (n c) at (generatorLines (n c) at) (s c) (few-qubits-here c)
 
 -- whether one more begins behind them
 abbrev found : tie.After-begins-row → tie.After-rows-up-to
@@ -66,9 +79,8 @@ returns c = (
       (many-qubits _ at _ _ (c .before .if1 .taken)),
 )
 
-rows-up-to-requires : tie.Need-rows-up-to-requires
-unfolding mostGenerators
-rows-up-to-requires c κs = let most = c .most-generators .ensures in (search needs, (omega arith, search needs))
+inside : (c : tie.After-rows-up-to) → read c .end ≤ length (s c)
+inside c = is-gathered c .within
 
 returns-2 : tie.Need-returns-2
 returns-2 c =
@@ -77,7 +89,7 @@ returns-2 c =
       rows-before (c .refused2 .ensures) _ (few line),
       λ at. rows-none (c .refused2 .ensures) _ at refl
           (within line at
-          ∙ generators-off-form (gathers line) at (more (begun .before) ∙ begun .if2 .taken)
+          ∙ generators-off-form (is-gathered line) at (more (begun .before) ∙ begun .if2 .taken)
           (subst (λ m. read line .count < m) (most line) (c .before .if3 .taken))),
     )
 
@@ -88,7 +100,7 @@ returns-3 c =
       rows-before (c .refused3 .ensures) _ (few line),
       λ at. rows-none (c .refused3 .ensures) _ at refl
           (within line at
-          ∙ generators-too-many (gathers line) at (more (begun .before) ∙ begun .if2 .taken)
+          ∙ generators-too-many (is-gathered line) at (more (begun .before) ∙ begun .if2 .taken)
           (subst (λ m. m ≤ read line .count) (most line) (c .before .if3 .left))),
     )
 
@@ -99,7 +111,7 @@ returns-4 c =
       rows-before (c .refused4 .ensures) _ (omega arith),
       λ at. rows-none (c .refused4 .ensures) _ at refl
           (within line at
-          ∙ generators-none (gathers line) at (more (other .before) ∙ other .if2 .left) (c .before .if4 .taken)),
+          ∙ generators-none (is-gathered line) at (more (other .before) ∙ other .if2 .left) (c .before .if4 .taken)),
     )
 
 returns-5 : tie.Need-returns-5
@@ -107,8 +119,8 @@ returns-5 c =
     let other = c .before .before in
     let line = found (other .before) in (
       omega arith,
-      λ at. rows-given (gathers line .within)
-          (generators-read (gathers line) at (more (other .before) ∙ other .if2 .left) (c .before .if4 .left))
+      λ at. rows-given (is-gathered line .within)
+          (generators-read (is-gathered line) at (more (other .before) ∙ other .if2 .left) (c .before .if4 .left))
           ∙ ap (rowsAnswer (s line)) (sym (within line at)),
     )
 
@@ -119,9 +131,9 @@ generator-lines-spec =
     (λ c κs. search needs)
     returns
     (λ c κs. search needs)
-    rows-up-to-requires
-    (λ c. search needs)
-    (λ c. search needs)
+    (λ c κs. search needs)
+    inside
+    inside
     (λ c. search needs)
     (λ c κs. search needs)
     (λ c κs. search needs)
