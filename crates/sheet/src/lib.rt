@@ -1,3 +1,2 @@
 // The code sheet: what its lines are, and how they are read and written. Its definitions are in specs/. The functions
-// that read are in the crates `line_kinds`, `line_parts`, `number_reader`, `row_reader`, `gathered_rows`,
-// `rows_reader`, `claim_reader`, `ordered_lines` and `reader`, those that write in `number_writer`, `row_writer`, `rows_writer` and `writer`.
+// that read and write it stand in small crates above this one, which README.md lists.
