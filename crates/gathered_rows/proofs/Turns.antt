@@ -39,6 +39,10 @@ module _ (key : String) (n : ℕ) where
 abbrev joined : List Pauli → List Pauli × List ℕ → List Pauli × List ℕ
 joined read q = (read ++ q .0, q .1)
 
+joined-row : (read : List Pauli) (row : Pauli) (q : List Pauli × List ℕ)
+    → joined read (row ∷ q .0, q .1) ≡ joined (read ++ row ∷ []) q
+joined-row read row q = ap (λ rows. (rows, q .1)) (sym (append-assoc read (row ∷ []) (q .0)))
+
 pub record Turned (most : ℕ) (key : String) (n : ℕ) (s : List ℕ) (rows : List Pauli) (count end : ℕ) : Type 0 where
   pub few : count ≤ most
   pub within : end ≤ length s
@@ -73,22 +77,16 @@ module _ (most : ℕ) (key : String) (n : ℕ) (s : List ℕ) where
           within = within;
           read = h .read ++ row ∷ [];
           held =
-              ap (λ all. set all count row) (h .held) ∙ ap (λ i. set (filled rowRoom (h .read)) i row) (sym (h .counted))
+              ap (λ all. set all count row) (h .held)
+              ∙ ap (λ i. set (filled rowRoom (h .read)) i row) (sym (h .counted))
               ∙ filled-more rowRoom (h .read) row (omega (arith, h .counted));
           counted = omega (arith, length-append (h .read) (row ∷ []), h .counted);
           so-far =
               h .so-far
               ∙ ap (λ m. joined (h .read) (rowsInTurn m key n (drop end s))) left
               ∙ ap (joined (h .read)) (turn-row key n (most - (count + 1)) (drop end s) e)
-              ∙ ap (λ t. joined (h .read) (
-                row ∷ rowsInTurn (most - (count + 1)) key n t .0,
-                rowsInTurn (most - (count + 1)) key n t .1,
-              )) (drop-drop used end s)
-              ∙ (λ i. (
-                sym
-                    (append-assoc (h .read) (row ∷ []) (rowsInTurn (most - (count + 1)) key n (drop (end + used) s) .0)) i,
-                rowsInTurn (most - (count + 1)) key n (drop (end + used) s) .1,
-              ));
+              ∙ joined-row (h .read) row (rowsInTurn (most - (count + 1)) key n (drop used (drop end s)))
+              ∙ ap (λ t. joined (h .read ++ row ∷ []) (rowsInTurn (most - (count + 1)) key n t)) (drop-drop used end s);
         }
 
     -- no row is left
