@@ -1,8 +1,10 @@
-// The columns of a row, read as bits a1..an, b1..bn: where its first one stands, and how a row is cleared by another.
+// The columns of a row, read as bits a1..an, b1..bn: where its first one stands, whether a mask has a one at all, and
+// how a row is cleared by another.
 use pauli::Pauli;
 ghost use mathlib.Core.Path.{_≡_};
 ghost use Prim.Native.Nat.{_/_, _%_, _^_};
 ghost use Rattle.pauli.specs.Masks.{bits};
+ghost use Rattle.pauli.specs.Product.{identity, sameMasks};
 ghost use Rattle.stabilizer.specs.Canonical.{firstOne, column, pivot, cleared};
 
 // How many of a mask's n lowest bits stand below its first one: all n where there is none.
@@ -35,6 +37,13 @@ pub fn pivot(n: u32, p: Pauli) -> usize
         return x as usize;
     }
     n as usize + first_one(n, p.b) as usize
+}
+
+// Whether a Pauli is nothing but a phase: no mask has a one.
+pub fn is_phase(p: Pauli) -> bool
+    ensures { λ r. ⌜ r ≡ sameMasks p identity ⌝ }
+{
+    p.a == 0 && p.b == 0
 }
 
 // A row's bit in a column.

@@ -26,10 +26,12 @@ use Rattle.stabilizer.proofs.Walk.{Left, taken-more, fault-start, fault-at, fau
 use Rattle.reduced_rows.specs.declared.Kind.{Kind}
 use Rattle.reduced_rows.specs.declared.Kind.the-variants.{Independent as IsIndependent, PlusIdentity, MinusIdentity}
 use Rattle.reduced_rows.specs.declared.ReducedRows.{ReducedRows}
+use Rattle.reduced_rows.specs.RowKinds.{kindOf}
 use Rattle.reduced_rows.specs.Rows.{rowsIn, reducedOf}
-use Rattle.reduced_rows.specs.Step.{kindOf, addition}
-use Rattle.reduced_rows.proofs.RowKinds.{independent-left, independent-joins}
+use Rattle.reduced_rows.proofs.RowKinds.{independent-left}
 use Rattle.reduced_rows.proofs.Rows.{rows-of}
+use Rattle.elimination_step.specs.Step.{addition}
+use Rattle.elimination_step.proofs.Step.{independent-joins}
 
 -- ---- the fault of a kind
 

@@ -51,7 +51,7 @@ fn independence(code: Code) -> Elimination
                 return refused(Refusal::MinusIdentity(first + place, Family::Generator));
             }
         }
-        reduced = reduced.add(p);
+        reduced = elimination_step::add(reduced, p);
         place += 1;
     }
     Elimination {

@@ -15,8 +15,8 @@ use Rattle.stabilizer.specs.Group.{memberSign}
 use Rattle.stabilizer.proofs.Faults.{reducedSign, member-sign-reduced}
 use Rattle.reduced_rows.specs.declared.Kind.{Kind}
 use Rattle.reduced_rows.specs.declared.Kind.the-variants.{Independent, PlusIdentity, MinusIdentity}
+use Rattle.reduced_rows.specs.RowKinds.{kindOf}
 use Rattle.reduced_rows.specs.Rows.{rowsIn, reducedOf}
-use Rattle.reduced_rows.specs.Step.{kindOf}
 use Rattle.reduced_rows.proofs.Rows.{rows-of}
 use Rattle.commutation.specs.declared.Checked.{Checked}
 use Rattle.elimination.specs.declared.Elimination.{Elimination}

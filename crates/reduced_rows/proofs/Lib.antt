@@ -1,4 +1,3 @@
 pub mod ArrayLength
 pub mod Rows
-pub mod GatheredRows
 pub mod RowKinds

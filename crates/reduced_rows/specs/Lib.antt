@@ -1,2 +1,2 @@
+pub mod RowKinds
 pub mod Rows
-pub mod Step

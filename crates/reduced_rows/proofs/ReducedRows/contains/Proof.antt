@@ -8,7 +8,7 @@ use Rattle.reduced_rows.proofs.ReducedRows.contains.Tie as tie
 
 returns : tie.Need-returns
 unfolding reducesToIdentity
-returns c = c .is-identity .ensures ∙ ap (λ left. sameMasks left identity) (c .before .reduce .ensures)
+returns c = c .is-phase .ensures ∙ ap (λ left. sameMasks left identity) (c .before .reduce .ensures)
 
 pub contains-spec : {M : Type 1} → statement M
 contains-spec = tie.close (tie.spec (λ c κs. search needs) (λ c κs. search needs) returns)

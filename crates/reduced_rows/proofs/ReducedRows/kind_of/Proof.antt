@@ -1,6 +1,6 @@
 -- What the rows tell of a row is told by what they leave of it.
 use mathlib.Core.Path.{ap, _∙_}
-use Rattle.reduced_rows.specs.Step.{kindOf}
+use Rattle.reduced_rows.specs.RowKinds.{kindOf}
 use borrow.Author.Needs.{needs}
 use Rattle.reduced_rows.proofs.ReducedRows.kind_of.Statement.{statement}
 use Rattle.reduced_rows.proofs.ReducedRows.kind_of.Tie as tie

@@ -2,10 +2,10 @@
 -- otherwise they stay.
 use mathlib.Core.Logic.{⊎-elim}
 use Rattle.code_record.proofs.Tests.{passed, failed}
-use Rattle.reduced_rows.proofs.RowKinds.{step-dependent, step-full, step-joins}
+use Rattle.elimination_step.proofs.Step.{step-dependent, step-full, step-joins}
 use borrow.Author.Needs.{needs}
-use Rattle.reduced_rows.proofs.ReducedRows.add.Statement.{statement}
-use Rattle.reduced_rows.proofs.ReducedRows.add.Tie as tie
+use Rattle.elimination_step.proofs.add.Statement.{statement}
+use Rattle.elimination_step.proofs.add.Tie as tie
 
 returns : tie.Need-returns
 returns c =
@@ -13,8 +13,8 @@ returns c =
     let test = low .before .before in
     let reducing = test .before .before .before in
     let a = reducing .before .args in
-    step-joins (a .self) (a .p) _ (reducing .reduce .ensures) (test .before .if1 .taken)
-    (failed (test .is-identity .ensures) (low .before .if2 .taken)) (low .modulo4 .ensures) (c .insert .ensures)
+    step-joins (a .hs) (a .p) _ (reducing .reduce .ensures) (test .before .if1 .taken)
+    (failed (test .is-phase .ensures) (low .before .if2 .taken)) (low .modulo4 .ensures) (c .insert .ensures)
 
 returns-2 : tie.Need-returns-2
 returns-2 c =
@@ -22,8 +22,8 @@ returns-2 c =
     let a = reducing .before .args in
     let left = reducing .reduce .ensures in
     ⊎-elim
-    (λ test. step-dependent (a .self) (a .p) _ left (test .0 .taken) (passed (test .1 .ensures) (test .2 .left)))
-    (λ full. step-full (a .self) (a .p) _ left (full .left)) (c .if1 .came)
+    (λ test. step-dependent (a .hs) (a .p) _ left (test .0 .taken) (passed (test .1 .ensures) (test .2 .left)))
+    (λ full. step-full (a .hs) (a .p) _ left (full .left)) (c .if1 .came)
 
 pub add-spec : {M : Type 1} → statement M
 add-spec =

@@ -8,15 +8,15 @@ use lib.ListN.{length, drop, length-map}
 use Rattle.pauli.specs.declared.Pauli.{Pauli}
 use Rattle.code_record.specs.Record.{rowRoom}
 use Rattle.stabilizer.specs.Canonical.{cleared, insertByPivot}
 use Rattle.reduced_rows.specs.Rows.{rowsIn, reducedOf}
-use Rattle.reduced_rows.specs.Step.{belowPivot}
-use Rattle.reduced_rows.proofs.GatheredRows.{Grown, grown-as, grown-more, grown-all, inserted-behind}
-use Rattle.reduced_rows.proofs.GatheredRows.{length-below}
+use Rattle.elimination_step.specs.Step.{belowPivot}
+use Rattle.elimination_step.proofs.GatheredRows.{Grown, grown-as, grown-more, grown-all, inserted-behind}
+use Rattle.elimination_step.proofs.GatheredRows.{length-below}
 use Rattle.reduced_rows.proofs.ArrayLength.{room-of}
-use Rattle.reduced_rows.proofs.Rows.{count-is, clearedFrom, cleared-at, cleared-end}
+use Rattle.elimination_step.proofs.ClearedRows.{count-is, clearedFrom, cleared-at, cleared-end}
 use borrow.Author.Needs.{needs}
-use Rattle.reduced_rows.proofs.ReducedRows.insert.Statement.{statement}
-use Rattle.reduced_rows.proofs.ReducedRows.insert.Tie as tie
+use Rattle.elimination_step.proofs.insert.Statement.{statement}
+use Rattle.elimination_step.proofs.insert.Tie as tie
 
 abbrev Inv-loop : tie.InvT-loop
 Inv-loop q self n count longer₀ place₀ longer place =

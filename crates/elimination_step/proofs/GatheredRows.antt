@@ -7,12 +7,13 @@ use native.Mathlib.Omega.{arith}
 use lib.Dec.{ltb}
 use lib.ListN.{length, drop, set, length-append}
 use Rattle.pauli.specs.declared.Pauli.{Pauli}
-use Rattle.code_record.specs.Record.{rowRoom}
+use Rattle.code_record.specs.Record.{rowRoom, filled}
+use Rattle.code_record.proofs.Filled.{filled-more}
 use Rattle.stabilizer.specs.Canonical.{pivot, insertByPivot}
 use Rattle.reduced_rows.specs.declared.ReducedRows.{ReducedRows}
 use Rattle.reduced_rows.specs.Rows.{reducedOf}
-use Rattle.reduced_rows.specs.Step.{belowPivot}
-use Rattle.reduced_rows.proofs.Rows.{value, pushed}
+use Rattle.reduced_rows.proofs.Rows.{value}
+use Rattle.elimination_step.specs.Step.{belowPivot}
 
 pub record Grown (n : ℕ) (hs : ReducedRows) (rest all : List Pauli) (size : ℕ) : Type 0 where
   pub rows : List Pauli
@@ -28,6 +29,12 @@ pub grown-as : {n : ℕ} {hs : ReducedRows} {rest others all : List Pauli} {size
 grown-as {n} {hs} {all = all} {size} g e = subst (λ r. Grown n hs r all size) e g
 
 -- One row is stored behind the others.
+pushed : (n : ℕ) (rows : List Pauli) (p : Pauli) → length rows < rowRoom
+    → value n (length rows + 1) (set (filled rowRoom rows) (length rows) p) ≡ reducedOf n (rows ++ p ∷ [])
+unfolding reducedOf
+pushed n rows p room =
+    ap₂ (value n) (omega (arith, length-append rows (p ∷ []))) (filled-more rowRoom rows p room)
+
 pub grown-more : {n : ℕ} {hs : ReducedRows} {rest all : List Pauli} {size : ℕ} (h : Pauli)
     → Grown n hs (h ∷ rest) all size → size < rowRoom
     → Grown n (value (hs .n) (size + 1) (set (hs .rows) size h)) rest all (size + 1)

@@ -8,14 +8,14 @@ use native.Mathlib.Omega.{arith}
 use borrow.Author.Tests.{lt-ltb, le-ltb}
 use lib.Dec.{ltb}
 use Rattle.stabilizer.specs.Canonical.{pivot}
-use Rattle.reduced_rows.specs.Step.{belowPivot}
-use Rattle.reduced_rows.proofs.GatheredRows.{Grown, grown-none, grown-as, grown-more, grown-all, below-stops}
-use Rattle.reduced_rows.proofs.GatheredRows.{below-goes-on, below-nothing}
+use Rattle.elimination_step.specs.Step.{belowPivot}
+use Rattle.elimination_step.proofs.GatheredRows.{Grown, grown-none, grown-as, grown-more, grown-all, below-stops}
+use Rattle.elimination_step.proofs.GatheredRows.{below-goes-on, below-nothing}
 use Rattle.reduced_rows.proofs.ArrayLength.{room-of}
-use Rattle.reduced_rows.proofs.Rows.{clearedFrom, cleared-at, cleared-end}
+use Rattle.elimination_step.proofs.ClearedRows.{clearedFrom, cleared-at, cleared-end}
 use borrow.Author.Needs.{needs}
-use Rattle.reduced_rows.proofs.ReducedRows.below.Statement.{statement}
-use Rattle.reduced_rows.proofs.ReducedRows.below.Tie as tie
+use Rattle.elimination_step.proofs.below.Statement.{statement}
+use Rattle.elimination_step.proofs.below.Tie as tie
 
 abbrev Inv-loop : tie.InvT-loop
 Inv-loop q self n count first passed₀ place₀ passed place =

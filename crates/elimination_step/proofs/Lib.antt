@@ -1,0 +1,3 @@
+pub mod ClearedRows
+pub mod GatheredRows
+pub mod Step
