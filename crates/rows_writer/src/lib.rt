@@ -12,7 +12,7 @@ ghost use Rattle.sheet.specs.Text.{laid};
 ghost use Rattle.rows_writer.specs.Rows.{rowsText, writeRows};
 
 // How many rows there are in an array, where `count` are asked for.
-fn rows_there(count: usize) -> usize
+pub fn rows_there(count: usize) -> usize
     ensures { λ r. ⌜ r ≡ min count rowRoom ⌝ }
 {
     if count < ROW_ROOM { count } else { ROW_ROOM }

@@ -13,6 +13,10 @@ use lib.Seq.{drop-append-seam}
 use Rattle.sheet.specs.Text.{laid}
 use Rattle.sheet.proofs.Parts.{tail-of}
 
+-- A buffer with room for a text has room for the front of it.
+pub front-fits : {m : ℕ} (text more : List ℕ) → length (text ++ more) ≤ m → length text ≤ m
+front-fits text more h = omega (arith, length-append text more)
+
 pub laid-nothing : (buffer : List ℕ) → buffer ≡ laid [] buffer
 unfolding laid
 laid-nothing buffer = refl

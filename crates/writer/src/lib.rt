@@ -1,4 +1,4 @@
-// The writer of a sheet. Each part of it has a function of its own, which is lent the output from the part's first byte
+// The writer of a sheet. Each part of it has a call of its own, which is lent the output from the part's first byte
 // onward and answers how many bytes the part has.
 use code_record::Code;
 use refusals::Refusal;
@@ -10,35 +10,6 @@ ghost use lib.ListN.{length};
 ghost use Rattle.code_record.specs.Record.{withinLimits};
 ghost use Rattle.sheet.specs.Text.{laid};
 ghost use Rattle.sheet.specs.Writer.{sheetText, writeSheet};
-ghost use Rattle.writer.specs.Parts.{numbersText, allRowsText};
-
-// The lines of n and d.
-fn number_lines(out: &mut [u8], n: usize, d: usize) -> usize
-    requires { ⌜ length (numbersText n d) ≤ length (now out) ⌝ }
-    ensures { λ r. ⌜ r ≡ length (numbersText n d) ⌝ }
-    ensures { λ _. ⌜ now (out .exit) ≡ laid (numbersText n d) (now (out .entry)) ⌝ }
-{
-    let mut end = number_writer::write_number(b"n=", n, out).count();
-    end += number_writer::write_number(b"d=", d, &mut out[end..]).count();
-    end
-}
-
-// The lines of all rows, of a record within limits.
-fn row_lines(out: &mut [u8], code: Code) -> usize
-    requires { ⌜ withinLimits code ≡ true ⌝ }
-    requires { ⌜ length (allRowsText code) ≤ length (now out) ⌝ }
-    ensures { λ r. ⌜ r ≡ length (allRowsText code) ⌝ }
-    ensures { λ _. ⌜ now (out .exit) ≡ laid (allRowsText code) (now (out .entry)) ⌝ }
-{
-    let k = code_record::pair_count(code.n, code.r);
-    let g = code.g;
-    let x = code.x;
-    let z = code.z;
-    let mut end = rows_writer::write_rows(b'g', code.n, code.r, g, out).count();
-    end += rows_writer::write_rows(b'x', code.n, k, x, &mut out[end..]).count();
-    end += rows_writer::write_rows(b'z', code.n, k, z, &mut out[end..]).count();
-    end
-}
 
 // The lines of a sheet, of a record within limits.
 fn sheet_lines(out: &mut [u8], code: Code) -> usize
@@ -47,8 +18,8 @@ fn sheet_lines(out: &mut [u8], code: Code) -> usize
     ensures { λ r. ⌜ r ≡ length (sheetText code) ⌝ }
     ensures { λ _. ⌜ now (out .exit) ≡ laid (sheetText code) (now (out .entry)) ⌝ }
 {
-    let mut end = number_lines(out, code.n, code.d);
-    end += row_lines(&mut out[end..], code);
+    let mut end = numbers_writer::write_numbers(code.n, code.d, out).count();
+    end += families_writer::write_families(code, &mut out[end..]).count();
     end += row_writer::write_letters(b'w', code.n, code.w, &mut out[end..]).count();
     end
 }

@@ -7,14 +7,18 @@ use native.Mathlib.Omega.{arith}
 use lib.ListN.{length}
 use borrow.Author.Needs.{needs}
 use Rattle.code_record.specs.declared.Code.{Code}
+use Rattle.code_record.specs.Record.{mostQubits}
 use Rattle.code_record.proofs.Limits.{limits}
 use Rattle.sheet.specs.Writer.{sheetText}
-use Rattle.sheet.proofs.Laid.{lent, back, Holds, end-within, room-behind, holds-as, holds-more}
+use Rattle.sheet.proofs.Laid.{front-fits, lent, back, Holds, end-within, room-behind, holds-as, holds-more}
 use Rattle.sheet.proofs.WrittenText.{count-is, content-is}
 use Rattle.row_writer.specs.Lines.{lettersLineText}
 use Rattle.row_writer.proofs.Lines.{letters-has-room}
-use Rattle.writer.specs.Parts.{numbersText, allRowsText}
-use Rattle.writer.proofs.Parts.{front-fits, toRows, toW, sheet-parts}
+use Rattle.numbers_writer.specs.Numbers.{numbersText}
+use Rattle.numbers_writer.proofs.Numbers.{numbers-has-room}
+use Rattle.families_writer.specs.Families.{familiesText}
+use Rattle.families_writer.proofs.Families.{families-has-room}
+use Rattle.writer.proofs.Parts.{toRows, toW, sheet-parts}
 use Rattle.writer.proofs.sheet_lines.Statement.{statement}
 use Rattle.writer.proofs.sheet_lines.Tie as tie
 
@@ -27,8 +31,14 @@ module _ (c : tie.Start) where
   abbrev buffer : List ℕ
   buffer = c .args .out .now
 
+  qubits : (2 ≤ code .n) × (code .n ≤ mostQubits)
+  qubits = limits code (c .pre .0) .qubits
+
   abbrev numbers : List ℕ
   numbers = numbersText (code .n) (code .d)
+
+  abbrev rows : List ℕ
+  rows = familiesText code
 
   abbrev claim : List ℕ
   claim = lettersLineText 119 (code .n) (code .w)
@@ -40,51 +50,60 @@ module _ (c : tie.Start) where
   fitsRows = front-fits (toRows code) claim fitsW
 
   fitsNumbers : length numbers ≤ length buffer
-  fitsNumbers = front-fits numbers (allRowsText code) fitsRows
+  fitsNumbers = front-fits numbers rows fitsRows
 
 -- ---- behind each call
 
-module _ (c : tie.After-slice-known2) where
+module _ (c : tie.After-count) where
   abbrev start : tie.Start
-  start = c .before .before .before .before .before
+  start = c .before .before .before .before .before .before
 
   abbrev outN : List ℕ
-  outN = c .before .before .number-lines .last .0
+  outN = c .before .before .before .write-numbers .last .1 .1 .0
 
   abbrev endN : ℕ
-  endN = c .before .before .number-lines .result
+  endN = c .count .result
 
   behindNumbers : Holds (numbers start) (buffer start) outN endN
   behindNumbers =
-      let call = c .before .before .number-lines in
-      record { content = call .ensures .1; count = call .ensures .0; size = call .kept .0 }
+      let call = c .before .before .before .write-numbers in
+      let whole = numbers-has-room (code start .n) (code start .d) (buffer start) (fitsNumbers start) in
+      record {
+        content = content-is (numbers start) (buffer start) whole (call .ensures .1);
+        count = count-is (numbers start) (buffer start) whole (call .ensures .0) (c .count .ensures);
+        size = call .kept .1 .1 .0;
+      }
 
   insideN : endN ≤ length outN
   insideN = end-within behindNumbers (fitsNumbers start)
 
-module _ (c : tie.After-slice-known3) where
-  abbrev atN : tie.After-slice-known2
-  atN = c .before .before .before .before
+module _ (c : tie.After-count2) where
+  abbrev atN : tie.After-count
+  atN = c .before .before .before .before .before
 
   abbrev sR : tie.Start
   sR = start atN
 
   abbrev outR : List ℕ
-  outR = back (endN atN) (outN atN) (c .before .before .row-lines .last .0)
+  outR = back (endN atN) (outN atN) (c .before .before .before .write-families .last .1 .0)
 
   abbrev endR : ℕ
-  endR = endN atN + c .before .before .row-lines .result
+  endR = endN atN + c .count2 .result
 
   behindRows : Holds (toRows (code sR)) (buffer sR) outR endR
   behindRows =
-      let call = c .before .before .row-lines in
-      holds-more (behindNumbers atN) _ (call .ensures .0) (call .ensures .1) (call .kept .0)
+      let call = c .before .before .before .write-families in
+      let part = lent (endN atN) (outN atN) in
+      let whole = families-has-room (code sR) part (qubits sR .0) (qubits sR .1)
+      (room-behind (behindNumbers atN) (rows sR) (fitsRows sR)) in
+      holds-more (behindNumbers atN) (rows sR) (count-is (rows sR) part whole (call .ensures .0) (c .count2 .ensures))
+      (content-is (rows sR) part whole (call .ensures .1)) (call .kept .1 .0)
 
   insideR : endR ≤ length outR
   insideR = end-within behindRows (fitsRows sR)
 
-module _ (c : tie.After-count) where
-  abbrev atR : tie.After-slice-known3
+module _ (c : tie.After-count3) where
+  abbrev atR : tie.After-count2
   atR = c .before .before .before .before .before
 
   abbrev s : tie.Start
@@ -92,24 +111,18 @@ module _ (c : tie.After-count) where
 
   behindW : Holds (sheetText (code s)) (buffer s)
       (back (endR atR) (outR atR) (c .before .before .before .write-letters .last .1 .1 .1 .0))
-      (endR atR + c .count .result)
+      (endR atR + c .count3 .result)
   behindW =
       let call = c .before .before .before .write-letters in
       let part = lent (endR atR) (outR atR) in
-      let q = limits (code s) (s .pre .0) .qubits in
-      let whole = letters-has-room 119 (code s .n) (code s .w) part (q .0) (q .1)
+      let whole = letters-has-room 119 (code s .n) (code s .w) part (qubits s .0) (qubits s .1)
       (room-behind (behindRows atR) (claim s) (fitsW s)) in
       holds-as
-      (holds-more (behindRows atR) (claim s) (count-is (claim s) part whole (call .ensures .0) (c .count .ensures))
+      (holds-more (behindRows atR) (claim s) (count-is (claim s) part whole (call .ensures .0) (c .count3 .ensures))
       (content-is (claim s) part whole (call .ensures .1)) (call .kept .1 .1 .1 .0))
       (sheet-parts (code s))
 
 -- ---- the needs
-
-row-lines-requires : tie.Need-row-lines-requires
-row-lines-requires c κs =
-    let s = start (c .before) in
-    (s .pre .0, room-behind (behindNumbers (c .before)) (allRowsText (code s)) (fitsRows s))
 
 add-end : tie.Need-add-end
 add-end c = record { fits = omega (arith, behindRows c .count, fitsRows (sR c), sR c .good .0) }
@@ -124,11 +137,13 @@ pub sheet-lines-spec : {M : Type 1} → statement M
 sheet-lines-spec =
     tie.close
     (tie.spec
-    (λ c κs. fitsNumbers (c .before .before))
+    (λ c κs. search needs)
+    (λ c κs. search needs)
     insideN
     insideN
     (λ c. search needs)
-    row-lines-requires
+    (λ c κs. search needs)
+    (λ c κs. search needs)
     add-end
     insideR
     insideR

@@ -8,15 +8,14 @@ use lib.ListN.{length, take}
 use borrow.Author.Needs.{needs}
 use Rattle.code_record.specs.declared.Code.{Code}
 use Rattle.code_record.specs.Record.{mostQubits, logicalCount, generators, logicalXs, logicalZs}
-use Rattle.code_record.proofs.Limits.{limits}
-use Rattle.sheet.proofs.Laid.{lent, back, Holds, end-within, room-behind, holds-as, holds-more}
+use Rattle.sheet.proofs.Laid.{front-fits, lent, back, Holds, end-within, room-behind, holds-as, holds-more}
 use Rattle.sheet.proofs.WrittenText.{count-is, content-is}
 use Rattle.rows_writer.specs.Rows.{rowsText}
 use Rattle.rows_writer.proofs.Rows.{rows-has-room}
-use Rattle.writer.specs.Parts.{allRowsText}
-use Rattle.writer.proofs.Parts.{front-fits, toG, toX, toZ, rows-parts}
-use Rattle.writer.proofs.row_lines.Statement.{statement}
-use Rattle.writer.proofs.row_lines.Tie as tie
+use Rattle.families_writer.specs.Families.{familiesText}
+use Rattle.families_writer.proofs.Families.{toG, toX, toZ, families-parts}
+use Rattle.families_writer.proofs.family_lines.Statement.{statement}
+use Rattle.families_writer.proofs.family_lines.Tie as tie
 
 -- ---- what is known before the first line
 
@@ -31,11 +30,11 @@ module _ (c : tie.After-pair-count) where
   k = c .pair-count .result
 
   qubits : (2 ≤ code .n) × (code .n ≤ mostQubits)
-  qubits = limits code (c .before .before .pre .0) .qubits
+  qubits = (c .before .before .pre .0, c .before .before .pre .1 .0)
 
   -- The lines up to each key have room.
   fitsZ : length (toZ code) ≤ length buffer
-  fitsZ = omega (arith, ap length (rows-parts code), c .before .before .pre .1)
+  fitsZ = omega (arith, ap length (families-parts code), c .before .before .pre .1 .1)
 
   fitsX : length (toX code) ≤ length buffer
   fitsX = front-fits (toX code) _ fitsZ
@@ -118,7 +117,7 @@ module _ (c : tie.After-count3) where
   abbrev s : tie.After-pair-count
   s = sX atX
 
-  behindZ : Holds (allRowsText (code s)) (buffer s)
+  behindZ : Holds (familiesText (code s)) (buffer s)
       (back (endX atX) (outX atX) (c .before .before .before .write-rows3 .last .1 .1 .1 .1 .0))
       (endX atX + c .count3 .result)
   behindZ =
@@ -129,7 +128,7 @@ module _ (c : tie.After-count3) where
       holds-as
       (holds-more (behindX atX) (linesZ s) (count-is (linesZ s) part whole (call .ensures .0) (c .count3 .ensures))
       (content-is (linesZ s) part whole (call .ensures .1)) (call .kept .1 .1 .1 .1 .0))
-      (moreZ s ∙ rows-parts (code s))
+      (moreZ s ∙ families-parts (code s))
 
 -- ---- the needs
 
@@ -138,13 +137,13 @@ add-end c = record { fits = omega (arith, behindX c .count, fitsX (sX c), sX c .
 
 add-end-2 : tie.Need-add-end-2
 add-end-2 c =
-    record { fits = omega (arith, behindZ c .count, s c .before .before .pre .1, s c .before .before .good .0) }
+    record { fits = omega (arith, behindZ c .count, s c .before .before .pre .1 .1, s c .before .before .good .0) }
 
 returns : tie.Need-returns
 returns c = (behindZ c .count, behindZ c .content)
 
-pub row-lines-spec : {M : Type 1} → statement M
-row-lines-spec =
+pub family-lines-spec : {M : Type 1} → statement M
+family-lines-spec =
     tie.close
     (tie.spec
     (λ c κs. search needs)

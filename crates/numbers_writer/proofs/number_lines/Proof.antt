@@ -1,28 +1,27 @@
 -- Behind each call the slice holds the lines up to there, and `end` is their length.
-use mathlib.Core.List.{List, [], _∷_, _++_}
+use mathlib.Core.List.{List, _++_}
 use mathlib.Core.Path.{ap}
 use Prim.Native.Nat.{ℕ, _+_, _≤_}
 use native.Mathlib.Omega.{arith}
 use lib.ListN.{length}
 use borrow.Author.Needs.{needs}
-use Rattle.sheet.proofs.Laid.{lent, back, Holds, end-within, room-behind, holds-as, holds-more}
+use Rattle.sheet.proofs.Laid.{front-fits, lent, back, Holds, end-within, room-behind, holds-as, holds-more}
 use Rattle.sheet.proofs.WrittenText.{count-is, content-is}
-use Rattle.number_writer.specs.Lines.{numberText}
 use Rattle.number_writer.proofs.Numbers.{number-has-room}
-use Rattle.writer.specs.Parts.{numbersText}
-use Rattle.writer.proofs.Parts.{front-fits, numbers-parts}
-use Rattle.writer.proofs.number_lines.Statement.{statement}
-use Rattle.writer.proofs.number_lines.Tie as tie
+use Rattle.numbers_writer.specs.Numbers.{numbersText}
+use Rattle.numbers_writer.proofs.Numbers.{nText, dText, numbers-parts}
+use Rattle.numbers_writer.proofs.number_lines.Statement.{statement}
+use Rattle.numbers_writer.proofs.number_lines.Tie as tie
 
 module _ (c : tie.Start) where
   abbrev buffer : List ℕ
   buffer = c .args .out .now
 
   abbrev lineN : List ℕ
-  lineN = numberText (110 ∷ 61 ∷ []) (c .args .n)
+  lineN = nText (c .args .n)
 
   abbrev lineD : List ℕ
-  lineD = numberText (100 ∷ 61 ∷ []) (c .args .d)
+  lineD = dText (c .args .d)
 
   fits : length (lineN ++ lineD) ≤ length buffer
   fits = omega (arith, ap length (numbers-parts (c .args .n) (c .args .d)), c .pre)
