@@ -3,7 +3,7 @@
 use crate::cases::{Case, Kind};
 use crate::group::member;
 use crate::product::{commute, product};
-use crate::record::{write_number, Pauli, Record};
+use crate::record::{write_number, write_numbers, Pauli, Record};
 use crate::sheet::{self, Letter, Refusal, Row, Sheet};
 
 pub fn answer(case: &Case) -> Vec<u8> {
@@ -105,17 +105,21 @@ fn shown_behind(bytes: &[u8]) -> Vec<u8> {
     [&count, bytes, b"\n"].concat()
 }
 
-/// What is written of the changed record's first generator, its letters, n, and X mask of w, each as a line.
+/// What is written of the changed record's first generator, its letters, n, and X mask of w, each as a line; then of n
+/// and d, and of all rows.
 fn lines(text: &[u8], change: usize) -> Vec<u8> {
     let mut record = sheet::read_alone(text).map_or(Record::EMPTY, |sheet| Record::of(&sheet));
     let room = record.n + 4;
+    let rows = 2 * record.n - record.r;
     record.change(change);
-    let Record { n, g, w, .. } = record;
+    let Record { n, d, g, w, .. } = record;
     let row = written_thrice(room, |out| record.write_row("h=", g[0], out));
     let letters = written_thrice(room - 1, |out| record.write_letters("e=", g[0], out));
-    let n = written_thrice(23, |out| write_number("n=", n, out));
+    let number = written_thrice(23, |out| write_number("n=", n, out));
     let mask = written_thrice(8, |out| write_number("n=", w.a as usize, out));
-    [row, letters, n, mask].concat()
+    let numbers = written_thrice(8, |out| write_numbers(n, d, out));
+    let families = written_thrice(rows * room, |out| record.write_families(out));
+    [row, letters, number, mask, numbers, families].concat()
 }
 
 /// The count of the rows or the refusal; and unless it is a refusal and there is no change, for each probe the sign

@@ -140,20 +140,30 @@ impl Record {
     /// Writes the line of one row of n letters, whatever it is: its sign is - where it is not +, and bits above qubit n
     /// are left out. 15 is about n alone.
     pub fn write_row(&self, key: &str, pauli: Pauli, out: &mut [u8]) -> Result<usize, Refusal> {
-        let (minus, letters) = (!pauli.has_sign(false), self.letters(pauli)?);
-        put(&line(key, &Row { minus, letters }.text()), out)
+        put(&pauli.line(key, self.qubits()?), out)
     }
 
     /// Writes the same line without the sign.
     pub fn write_letters(&self, key: &str, pauli: Pauli, out: &mut [u8]) -> Result<usize, Refusal> {
-        put(&line(key, &letters_text(&self.letters(pauli)?)), out)
+        let letters = pauli.letters(self.qubits()?);
+        put(&line(key, &letters_text(&letters)), out)
     }
 
-    fn letters(&self, pauli: Pauli) -> Result<Vec<Letter>, Refusal> {
-        if !(2..=24).contains(&self.n) {
-            return Err(Refusal::new(15, 0));
-        }
-        Ok(pauli.letters(self.n))
+    /// Writes such lines of all rows that are used, and no more than there are.
+    pub fn write_families(&self, out: &mut [u8]) -> Result<usize, Refusal> {
+        let n = self.qubits()?;
+        let k = n.saturating_sub(self.r);
+        let lines = |key, rows: &[Pauli], used| -> Vec<u8> {
+            let used = rows.iter().take(used);
+            used.flat_map(|pauli| pauli.line(key, n)).collect()
+        };
+        let (g, x) = (lines("g=", &self.g, self.r), lines("x=", &self.x, k));
+        put(&[g, x, lines("z=", &self.z, k)].concat(), out)
+    }
+
+    fn qubits(&self) -> Result<usize, Refusal> {
+        let allowed = (2..=24).contains(&self.n);
+        allowed.then_some(self.n).ok_or(Refusal::new(15, 0))
     }
 
     /// Checks 15 and 6 to 8; gives the generators.
@@ -167,6 +177,11 @@ impl Record {
 /// Writes the line of one number.
 pub fn write_number(key: &str, number: usize, out: &mut [u8]) -> Result<usize, Refusal> {
     put(&line(key, number.to_string().as_bytes()), out)
+}
+
+/// Writes the lines of n and d.
+pub fn write_numbers(n: usize, d: usize, out: &mut [u8]) -> Result<usize, Refusal> {
+    put(format!("n={n}\nd={d}\n").as_bytes(), out)
 }
 
 /// Check 17, and the text at the front.
@@ -216,6 +231,12 @@ impl Pauli {
         let minus = signs.into_iter().find(|&minus| self.has_sign(minus))?;
         let letters = self.letters(n);
         Some(Row { minus, letters })
+    }
+
+    /// Its line with a key, of n letters; its sign is - where it is not +.
+    fn line(&self, key: &str, n: usize) -> Vec<u8> {
+        let (minus, letters) = (!self.has_sign(false), self.letters(n));
+        line(key, &Row { minus, letters }.text())
     }
 
     fn letters(&self, n: usize) -> Vec<Letter> {
@@ -306,6 +327,23 @@ mod tests {
         assert_eq!(&out, b"d=3014\n\n\n");
         let refusal = Err(Refusal::new(17, 0));
         assert_eq!(write_number("d=", 3014, &mut out[..6]), refusal);
+    }
+
+    #[test]
+    fn a_sheet_is_its_numbers_its_rows_and_w() {
+        let (record, mut out) = (record(A), vec![b'.'; A.len()]);
+        let front = write_numbers(record.n, record.d, &mut out).unwrap();
+        let rows = record.write_families(&mut out[front..]).unwrap();
+        let end = front + rows;
+        let claim = record.write_letters("w=", record.w, &mut out[end..]);
+        assert_eq!(claim, Ok(A.len() - end));
+        assert_eq!(out, A.as_bytes());
+        let mut changed = Record::EMPTY;
+        assert_eq!(changed.write_families(&mut out), Err(Refusal::new(15, 0)));
+        (changed.n, changed.r) = (2, usize::MAX);
+        let mut long = [b'.'; 32 * 6];
+        assert_eq!(changed.write_families(&mut long), Ok(long.len()));
+        assert_eq!(long, "g=+II\n".repeat(32).as_bytes());
     }
 
     #[test]

@@ -9,9 +9,12 @@ use test_cases::print;
 use test_cases::print_buffer;
 use test_cases::print_written;
 
-// Of a record's sheet, of its canonical generators, or of the line of a row, of its letters or of a number by itself.
+// Of a record's sheet, of its n and d, of its rows, of its canonical generators, or of the line of a row, of its
+// letters or of a number by itself.
 pub enum Writer {
     Sheet,
+    Numbers,
+    Families,
     Canonical,
     Row(Pauli),
     Letters(Pauli),
@@ -43,6 +46,8 @@ fn write_into(writer: Writer, code: Code, out: &mut [u8]) {
 fn written(writer: Writer, code: Code, out: &mut [u8]) -> Written {
     match writer {
         Writer::Sheet => writer::write_sheet(code, out),
+        Writer::Numbers => numbers_writer::write_numbers(code.n, code.d, out),
+        Writer::Families => families_writer::write_families(code, out),
         Writer::Canonical => canonical::write_canonical(code, out),
         Writer::Row(row) => row_writer::write_row(b'h', code.n, row, out),
         Writer::Letters(row) => row_writer::write_letters(b'e', code.n, row, out),
