@@ -1,4 +1,4 @@
-// The reader of a sheet, with anything behind it or by itself. A reading answers how many bytes the lines took, or the
+// The reader of a sheet's lines, with anything behind them. A reading answers how many bytes the lines took, or the
 // refusal that ended it.
 use code_record::LONGEST_INPUT;
 use code_record::LinesReading;
@@ -8,7 +8,7 @@ ghost use mathlib.Core.Path.{_≡_};
 ghost use Prim.Native.Nat.{_≤_};
 ghost use lib.ListN.{length, drop};
 ghost use Rattle.code_record.specs.Record.{mostQubits};
-ghost use Rattle.sheet.specs.Reader.{sheetLines, answered, linesReading, formReading, behind};
+ghost use Rattle.sheet.specs.Reader.{sheetLines, answered, linesReading};
 ghost use Rattle.reader.specs.Lines.{linesFromD};
 
 // The lines from the byte `from` on: d and what follows.
@@ -45,33 +45,4 @@ pub fn read_lines(s: &[u8]) -> LinesReading
         return LinesReading::refused(Lines::Refused(Refusal::TooLong));
     }
     sheet_lines(s)
-}
-
-// A sheet by itself, with nothing behind w.
-pub fn read_form(s: &[u8]) -> LinesReading
-    ensures { λ r. ⌜ r ≡ formReading (now (s .entry)) ⌝ }
-{
-    let reading = read_lines(s);
-    let answer = reading.answer;
-    let Lines::Read { used } = answer else {
-        return reading;
-    };
-    if used < s.len() {
-        return LinesReading::off_form(reading.claim_at + 1);
-    }
-    reading
-}
-
-// The part of s that is behind the lines; no bytes where they were refused.
-pub fn behind(s: &[u8], answer: Lines) -> &[u8]
-    ensures { λ r. ⌜ now r ≡ behind (now (s .entry)) answer ⌝ }
-{
-    let end = s.len();
-    let Lines::Read { used } = answer else {
-        return &s[end..];
-    };
-    if used < end {
-        return &s[used..];
-    }
-    &s[end..]
 }

@@ -22,7 +22,7 @@ use test_cases::with_bits;
 ghost use Prim.Native.Nat.{_≤_};
 
 pub fn answer_group(text: &[u8], change: usize) {
-    let reading = reader::read_form(text);
+    let reading = sheet_end::read_form(text);
     let code = reading.code;
     let n = code.n;
     let r = code.r;

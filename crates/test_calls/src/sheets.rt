@@ -27,13 +27,13 @@ pub fn answer_sheet(text: &[u8], change: usize) {
     }
     print_numbers(code);
     print_rows(code);
-    print_behind(reader::behind(text, answer));
+    print_behind(sheet_end::behind(text, answer));
     answer_alone(text);
     write_thrice(Writer::Sheet, changed(code, change), used);
 }
 
 fn answer_alone(text: &[u8]) {
-    let alone = reader::read_form(text);
+    let alone = sheet_end::read_form(text);
     print(b"alone");
     print_reading(alone);
     print_numbers(alone.code);

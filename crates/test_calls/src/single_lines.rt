@@ -8,7 +8,7 @@ use refusals::Family;
 use test_cases::changed;
 
 pub fn answer_lines(text: &[u8], change: usize) {
-    let reading = reader::read_form(text);
+    let reading = sheet_end::read_form(text);
     let code = reading.code;
     let changed = changed(code, change);
     let first = changed.row(Family::Generator, 0);

@@ -4,10 +4,10 @@ use native.Mathlib.Omega.{arith}
 use Rattle.code_record.specs.declared.LinesReading.{LinesReading}
 use Rattle.sheet.specs.Reader.{readLines, readForm, answered, linesReading, formReading}
 use Rattle.sheet.proofs.ReadBack.{reads-are-lawful, read-within}
-use Rattle.reader.proofs.Form.{claim-near, form-refused, form-behind, form-whole}
+use Rattle.sheet_end.proofs.Form.{claim-near, form-refused, form-behind, form-whole}
 use borrow.Author.Needs.{needs}
-use Rattle.reader.proofs.read_form.Statement.{statement}
-use Rattle.reader.proofs.read_form.Tie as tie
+use Rattle.sheet_end.proofs.read_form.Statement.{statement}
+use Rattle.sheet_end.proofs.read_form.Tie as tie
 
 abbrev start : tie.After-answer → tie.Start
 start c = c .before .before .before .before

@@ -5,8 +5,8 @@ use lib.Seq.{drop-length}
 use Rattle.sheet.specs.Reader.{behind}
 use Rattle.sheet.proofs.Parts.{tail-of}
 use borrow.Author.Needs.{needs}
-use Rattle.reader.proofs.behind.Statement.{statement}
-use Rattle.reader.proofs.behind.Tie as tie
+use Rattle.sheet_end.proofs.behind.Statement.{statement}
+use Rattle.sheet_end.proofs.behind.Tie as tie
 
 returns : tie.Need-returns
 unfolding behind
