@@ -1,4 +1,4 @@
-// What stands behind the lines of a sheet: nothing where it is read by itself, or the part from which a report reads on.
+// What stands behind the lines of a sheet: nothing where it is read by itself, or the part that a report reads next.
 use code_record::LinesReading;
 use refusals::Lines;
 ghost use mathlib.Core.Path.{_≡_};
