@@ -1,6 +1,6 @@
 // The canonical generators of a record as text: an `h=` line for each.
 use code_record::Code;
-use commutation::Checked;
+use refusals::Checked;
 use refusals::Written;
 ghost use mathlib.Core.Path.{_≡_};
 ghost use Rattle.stabilizer.specs.Canonical.{writeCanonical};

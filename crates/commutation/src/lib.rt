@@ -1,6 +1,7 @@
 // Check 6 over the generators of a record, which are compared two by two: each has to commute with those before it.
 use code_record::Code;
 use code_record::ROW_ROOM;
+use refusals::Checked;
 use refusals::Family;
 use refusals::Refusal;
 ghost use mathlib.Core.List.{[]};
@@ -10,14 +11,8 @@ ghost use lib.ListN.{take, getD};
 ghost use Rattle.letters.specs.Lists.{anyOf};
 ghost use Rattle.pauli.specs.Product.{identity, anticommutes};
 ghost use Rattle.code_record.specs.Record.{rowRoom, generators, generatorsAt};
+ghost use Rattle.refusals.specs.Refusals.{checkedRefusal};
 ghost use Rattle.stabilizer.specs.Checks.{firstFault, clash};
-ghost use Rattle.commutation.specs.Answers.{checkedRefusal};
-
-// The answer of the checks of a record's generators.
-pub enum Checked {
-    Passed,
-    Refused(Refusal),
-}
 
 // Whether the generator at a place anticommutes with an earlier one.
 fn clashes(code: Code, place: usize) -> bool

@@ -11,8 +11,8 @@ use Rattle.stabilizer.specs.Canonical.{canonicalGenerators}
 use Rattle.stabilizer.specs.Checks.{firstFault, clash, dependence, generatorFault, groupFault}
 use Rattle.reduced_rows.specs.declared.ReducedRows.{ReducedRows}
 use Rattle.reduced_rows.specs.Rows.{reducedOf}
-use Rattle.commutation.specs.declared.Checked.{Checked}
-use Rattle.commutation.specs.Answers.{checkedRefusal}
+use Rattle.refusals.specs.declared.Checked.{Checked}
+use Rattle.refusals.specs.Refusals.{checkedRefusal}
 use Rattle.elimination.specs.declared.Elimination.{Elimination}
 use Rattle.elimination.specs.Answers.{eliminated, independence, elimination}
 

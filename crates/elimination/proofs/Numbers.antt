@@ -6,7 +6,7 @@ use Prim.Native.Nat.{ℕ}
 use Rattle.pauli.specs.declared.Pauli.{Pauli}
 use Rattle.refusals.specs.declared.Refusal.{Refusal}
 use Rattle.stabilizer.proofs.Theorems.{canonical-refusal-numbers}
-use Rattle.commutation.specs.Answers.{checkedRefusal}
+use Rattle.refusals.specs.Refusals.{checkedRefusal}
 use Rattle.elimination.specs.Answers.{eliminated, elimination}
 use Rattle.elimination.specs.Statements.{EliminationRefusalNumbers}
 

@@ -18,8 +18,8 @@ use Rattle.stabilizer.proofs.StabilizerRows.{qubits-rows}
 use Rattle.stabilizer.proofs.Theorems.{reduction-decides-membership}
 use Rattle.reduced_rows.specs.Rows.{rowsIn, reducedOf}
 use Rattle.reduced_rows.proofs.Rows.{rows-of}
-use Rattle.commutation.specs.declared.Checked.{Checked}
-use Rattle.commutation.specs.Answers.{checkedRefusal}
+use Rattle.refusals.specs.declared.Checked.{Checked}
+use Rattle.refusals.specs.Refusals.{checkedRefusal}
 use Rattle.elimination.specs.declared.Elimination.{Elimination}
 use Rattle.elimination.specs.Answers.{eliminated, elimination}
 use Rattle.elimination.specs.Statements.{ContainsDecidesMembership}

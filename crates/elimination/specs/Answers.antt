@@ -9,7 +9,7 @@ use Rattle.code_record.specs.Record.{generators, generatorsAt}
 use Rattle.stabilizer.specs.Canonical.{canonicalGenerators}
 use Rattle.stabilizer.specs.Checks.{firstFault, dependence, groupFault}
 use Rattle.reduced_rows.specs.Rows.{reducedOf}
-use Rattle.commutation.specs.declared.Checked.{Checked}
+use Rattle.refusals.specs.declared.Checked.{Checked}
 use Rattle.elimination.specs.declared.Elimination.{Elimination}
 
 -- The canonical generators where there is no fault.

@@ -10,8 +10,8 @@ use Rattle.sheet.specs.Statements.{Among}
 use Rattle.stabilizer.specs.Canonical.{reducesToIdentity}
 use Rattle.stabilizer.specs.Group.{inGroupUpToPhase}
 use Rattle.reduced_rows.specs.Rows.{rowsIn}
-use Rattle.commutation.specs.declared.Checked.{Checked}
-use Rattle.commutation.specs.Answers.{checkedRefusal}
+use Rattle.refusals.specs.declared.Checked.{Checked}
+use Rattle.refusals.specs.Refusals.{checkedRefusal}
 use Rattle.elimination.specs.Answers.{elimination}
 
 -- Of a record that passes the checks, the canonical generators contain a Pauli exactly where it is in the group, phase

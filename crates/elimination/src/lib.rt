@@ -1,9 +1,9 @@
 // Elimination on the rows of a record, which are added one by one to rows in reduced echelon form: each step tells what
 // the row is to those before it. 7 and 8 and the canonical generators follow from it; 15 and 6 come before them.
 use code_record::Code;
-use commutation::Checked;
 use reduced_rows::Kind;
 use reduced_rows::ReducedRows;
+use refusals::Checked;
 use refusals::Family;
 use refusals::Refusal;
 ghost use mathlib.Core.Bool.{true};

@@ -31,6 +31,12 @@ zBit X = 0
 zBit Y = 1
 zBit Z = 1
 
+-- The letters other than I in their order, by number: X, Y, Z are 0, 1, 2.
+unfoldable pub struckLetter : ℕ → Letter
+struckLetter zero = X
+struckLetter (suc zero) = Y
+struckLetter (suc (suc k)) = Z
+
 -- RULES, "Letters and rows": what a sign adds to the phase of a row.
 abbrev pub signPhase : Sign → ℕ
 signPhase Plus = 0

@@ -1,7 +1,8 @@
 // Letters and signs: their bits and phases, and the bytes that they are written as.
 ghost use mathlib.Core.Path.{_≡_};
 ghost use Prim.Native.Nat.{_%_};
-ghost use Rattle.letters.specs.Letters.{letterAt, xBit, zBit, letterByte, readLetter, letterIn};
+ghost use Rattle.letters.specs.Letters.{letterAt, xBit, zBit, struckLetter};
+ghost use Rattle.letters.specs.Letters.{letterByte, readLetter, letterIn};
 ghost use Rattle.letters.specs.Letters.{signPhase, signByte, readSign, signIn};
 
 // A letter of a qubit.
@@ -51,6 +52,17 @@ impl Letter {
             Letter::X => 0,
             Letter::Y => 1,
             Letter::Z => 1,
+        }
+    }
+
+    // The letters that strike a qubit, by number: X, Y, Z are 0, 1, 2.
+    pub fn struck(number: usize) -> Letter
+        ensures { λ r. ⌜ r ≡ struckLetter number ⌝ }
+    {
+        match number {
+            0 => Letter::X,
+            1 => Letter::Y,
+            _ => Letter::Z,
         }
     }
 

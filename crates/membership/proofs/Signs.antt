@@ -18,7 +18,7 @@ use Rattle.reduced_rows.specs.declared.Kind.the-variants.{Independent, PlusIden
 use Rattle.reduced_rows.specs.RowKinds.{kindOf}
 use Rattle.reduced_rows.specs.Rows.{rowsIn, reducedOf}
 use Rattle.reduced_rows.proofs.Rows.{rows-of}
-use Rattle.commutation.specs.declared.Checked.{Checked}
+use Rattle.refusals.specs.declared.Checked.{Checked}
 use Rattle.elimination.specs.declared.Elimination.{Elimination}
 use Rattle.elimination.specs.Answers.{elimination}
 use Rattle.elimination.proofs.Passed.{fault-told, rows-told, passed-independent}

@@ -1,9 +1,9 @@
 // Membership in the group of a record's generators, with its sign.
 use code_record::Code;
-use commutation::Checked;
 use letters::Sign;
 use pauli::Pauli;
 use reduced_rows::Kind;
+use refusals::Checked;
 use refusals::Refusal;
 ghost use mathlib.Core.Path.{_≡_};
 ghost use Rattle.membership.specs.Answers.{kindMember, membership};

@@ -2,6 +2,7 @@
 use mathlib.Core.Bool.{Bool, cond}
 use mathlib.Core.Option.{Option, none, some}
 use Prim.Native.Nat.{ℕ}
+use Rattle.refusals.specs.declared.Checked.{Checked}
 use Rattle.refusals.specs.declared.ErrorPair.{ErrorPair}
 use Rattle.refusals.specs.declared.Family.{Family}
 use Rattle.refusals.specs.declared.Lines.{Lines}
@@ -62,6 +63,10 @@ answeredValues v = record { number = v .number; line = v .line; family = rowFami
 unfoldable pub linesRefusal : Lines → Option Refusal
 linesRefusal (Lines.Read used) = none
 linesRefusal (Lines.Refused refusal) = some refusal
+
+abbrev pub checkedRefusal : Checked → Option Refusal
+checkedRefusal Checked.Passed = none
+checkedRefusal (Checked.Refused refusal) = some refusal
 
 unfoldable pub writtenRefusal : Written → Option Refusal
 writtenRefusal (Written.Count m) = none

@@ -141,6 +141,12 @@ pub enum Lines {
     Refused(Refusal),
 }
 
+// The answer of checks: they passed, or this is their first fault.
+pub enum Checked {
+    Passed,
+    Refused(Refusal),
+}
+
 // What a call answers that writes text into an output buffer: the count of bytes written, or a refusal.
 pub enum Written {
     Count(usize),

@@ -6,7 +6,7 @@ use mathlib.Core.Path.{_≡_, ap, sym, _∙_}
 use Rattle.code_record.specs.Record.{generators, generatorsAt, withinLimits}
 use Rattle.code_record.proofs.Tests.{passed, failed}
 use Rattle.stabilizer.specs.Checks.{firstFault, clash}
-use Rattle.commutation.specs.Answers.{checkedRefusal}
+use Rattle.refusals.specs.Refusals.{checkedRefusal}
 use Rattle.elimination.proofs.CheckOrder.{outside-limits, clashing, clash-free}
 use borrow.Author.Needs.{needs}
 use Rattle.elimination.proofs.eliminate.Statement.{statement}

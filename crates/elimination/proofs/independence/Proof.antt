@@ -19,7 +19,7 @@ use Rattle.stabilizer.proofs.Generated.{whole, Commuting}
 use Rattle.stabilizer.proofs.StabilizerRows.{Rows}
 use Rattle.reduced_rows.specs.declared.Kind.{Kind}
 use Rattle.reduced_rows.specs.Rows.{reducedOf}
-use Rattle.commutation.specs.declared.Checked.{Checked}
+use Rattle.refusals.specs.declared.Checked.{Checked}
 use Rattle.elimination.specs.declared.Elimination.{Elimination}
 use Rattle.elimination.specs.Answers.{eliminated, independence}
 use Rattle.elimination.proofs.Steps.{kindFault, Stepped, stepped-none, stepped-end, stepped-fault, stepped-more}

@@ -1,6 +1,6 @@
 -- A refusal as the answer, and no row beside it.
 use mathlib.Core.Path.{ap}
-use Rattle.commutation.specs.declared.Checked.{Checked}
+use Rattle.refusals.specs.declared.Checked.{Checked}
 use Rattle.elimination.specs.Answers.{eliminated}
 use borrow.Author.Needs.{needs}
 use Rattle.elimination.proofs.refused.Statement.{statement}
