@@ -2,12 +2,12 @@
 use mathlib.Core.Bool.{Bool, true, false, true≢false, _&&_}
 use mathlib.Core.List.{List, [], _∷_}
 use mathlib.Core.Path.{_≡_, refl, ap, ap₂, sym, _∙_}
-use Prim.Native.Nat.{ℕ, zero, suc, _+_, _<_, _≤_}
+use Prim.Native.Nat.{ℕ, zero, suc, _+_, _-_, _<_, _≤_}
 use native.Mathlib.Numerals.{add-one}
 use native.Mathlib.Omega.{arith}
 use borrow.Author.Tests.{eq-eqb, ne-eqb}
 use lib.Dec.{eqb}
-use lib.ListN.{length, drop, getD, drop-of-length-le}
+use lib.ListN.{length, drop, getD, drop-of-length-le, length-drop}
 use lib.Seq.{drop-cons}
 use Rattle.letters.specs.Lists.{anyOf}
 use Rattle.word_scan.specs.Scan.{fits, firstPlace}
@@ -23,7 +23,8 @@ word-at words place inside =
 module _ (words : List ℕ) (place want : ℕ) where
   pub occurs-here : place < length words → getD words place 0 ≡ want → anyOf (eqb want) (drop place words) ≡ true
   unfolding anyOf
-  occurs-here inside e = ap (anyOf (eqb want)) (word-at words place inside) ∙ rw (eq-eqb want (getD words place 0) (sym e), anyOf)
+  occurs-here inside e =
+      ap (anyOf (eqb want)) (word-at words place inside) ∙ rw (eq-eqb want (getD words place 0) (sym e), anyOf)
 
   pub occurs-later : place < length words → (getD words place 0 ≡ want → ⊥)
       → anyOf (eqb want) (drop place words) ≡ anyOf (eqb want) (drop (place + 1) words)
@@ -53,6 +54,27 @@ fits-shunned want shun w u e = rw (eq-eqb u shun e) (go (eqb w want))
     go true = refl
     go false = refl
 
+no-second-words : (first : List ℕ) (want shun : ℕ) → firstPlace first [] want shun ≡ length first
+unfolding firstPlace
+no-second-words [] want shun = refl
+no-second-words (w ∷ first) want shun = ap suc (no-second-words first want shun)
+
+-- A wanted word that does not occur is at no place.
+pub no-place : (first second : List ℕ) (want shun : ℕ) → anyOf (eqb want) first ≡ false
+    → firstPlace first second want shun ≡ length first
+unfolding firstPlace anyOf
+no-place [] second want shun e = refl
+no-place (w ∷ first) [] want shun e = no-second-words (w ∷ first) want shun
+no-place (w ∷ first) (u ∷ second) want shun e = go (eqb want w) refl e (no-place first second want shun)
+  where
+    go : (t : Bool) → eqb want w ≡ t → _≡_ {A = Bool} (elim t [ true ↦ true | false ↦ anyOf (eqb want) first ]) false
+        → (anyOf (eqb want) first ≡ false → firstPlace first second want shun ≡ length first)
+        → firstPlace (w ∷ first) (u ∷ second) want shun ≡ length (w ∷ first)
+    go true p e later = absurd (true≢false e)
+    go false p e later =
+        rw (fits-not-wanted want shun w u (λ q. true≢false (sym (eq-eqb want w (sym q)) ∙ p)), firstPlace)
+        (ap suc (later e))
+
 module _ (first second : List ℕ) (place want shun : ℕ) where
   abbrev rest : ℕ → ℕ
   rest k = firstPlace (drop k first) (drop k second) want shun
@@ -76,48 +98,33 @@ module _ (first second : List ℕ) (place want shun : ℕ) where
   unfolding firstPlace
   no-first end = ap (λ (ws : List ℕ). firstPlace ws (drop place second) want shun) (drop-of-length-le first end)
 
-  pub no-second : length second ≤ place → rest place ≡ 0
-  unfolding firstPlace
+  pub no-second : length second ≤ place → rest place ≡ length first - place
   no-second end =
       ap (λ (us : List ℕ). firstPlace (drop place first) us want shun) (drop-of-length-le second end)
-      ∙ go (drop place first)
-    where
-      go : (ws : List ℕ) → firstPlace ws [] want shun ≡ 0
-      go [] = refl
-      go (w ∷ ws) = refl
+      ∙ no-second-words (drop place first) want shun
+      ∙ length-drop place first
 
 -- ---- what the scans tell
 
--- A word that does not occur is at no place.
-pub occurs-not : (words : List ℕ) (want j : ℕ) → anyOf (eqb want) words ≡ false → j < length words
-    → getD words j 0 ≡ want → ⊥
-unfolding anyOf
-occurs-not [] want j e h q = absurd (omega arith)
-occurs-not (w ∷ words) want j e h q = go (eqb want w) refl e j h q λ f i. occurs-not words want i f
-  where
-    go : (t : Bool) → eqb want w ≡ t → _≡_ {A = Bool} (elim t [ true ↦ true | false ↦ anyOf (eqb want) words ]) false
-        → (j : ℕ) → j < length (w ∷ words) → getD (w ∷ words) j 0 ≡ want
-        → (anyOf (eqb want) words ≡ false → (i : ℕ) → i < length words → getD words i 0 ≡ want → ⊥) → ⊥
-    go true p e j h q later = true≢false e
-    go false p e zero h q later = true≢false (sym (eq-eqb want w (sym q)) ∙ p)
-    go false p e (suc j) h q later = later e j (omega arith) q
-
 -- The words fit at the first place, and at no place before it.
 pub fits-before : (first second : List ℕ) (want shun j : ℕ) → j < firstPlace first second want shun
+    → j < length second
     → fits want shun (getD first j 0) (getD second j 0) ≡ false
 unfolding firstPlace
-fits-before [] second want shun j h = absurd (omega arith)
-fits-before (w ∷ first) [] want shun j h = absurd (omega arith)
-fits-before (w ∷ first) (u ∷ second) want shun j h =
-    go (fits want shun w u) refl j (λ i. fits-before first second want shun i) h
+fits-before [] second want shun j h inside = absurd (omega arith)
+fits-before (w ∷ first) [] want shun j h inside = absurd (omega arith)
+fits-before (w ∷ first) (u ∷ second) want shun j h inside =
+    go (fits want shun w u) refl j (λ i. fits-before first second want shun i) inside h
   where
     go : (t : Bool) → fits want shun w u ≡ t → (j : ℕ)
-        → ((i : ℕ) → i < firstPlace first second want shun → fits want shun (getD first i 0) (getD second i 0) ≡ false)
+        → ((i : ℕ) → i < firstPlace first second want shun → i < length second
+        → fits want shun (getD first i 0) (getD second i 0) ≡ false)
+        → j < length (u ∷ second)
         → j < elim t [ true ↦ 0 | false ↦ suc (firstPlace first second want shun) ]
         → fits want shun (getD (w ∷ first) j 0) (getD (u ∷ second) j 0) ≡ false
-    go true p j later h = absurd (omega arith)
-    go false p zero later h = p
-    go false p (suc j) later h = later j (omega arith)
+    go true p j later inside h = absurd (omega arith)
+    go false p zero later inside h = p
+    go false p (suc j) later inside h = later j (omega arith) (omega arith)
 
 pub fits-at : (first second : List ℕ) (want shun : ℕ) → firstPlace first second want shun < length first
     → length first ≡ length second

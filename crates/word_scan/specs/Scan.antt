@@ -8,9 +8,9 @@ use lib.Dec.{eqb}
 unfoldable pub fits : ℕ → ℕ → ℕ → ℕ → Bool
 fits want shun w u = eqb w want && not (eqb u shun)
 
--- The first place where the words fit; the length of the shorter list where there is none.
+-- The first place where the words fit; the number of first words where there is none.
 unfoldable pub firstPlace : List ℕ → List ℕ → ℕ → ℕ → ℕ
 firstPlace [] second want shun = 0
-firstPlace (w ∷ first) [] want shun = 0
+firstPlace (w ∷ first) [] want shun = suc (firstPlace first [] want shun)
 firstPlace (w ∷ first) (u ∷ second) want shun =
     elim (fits want shun w u) [ true ↦ 0 | false ↦ suc (firstPlace first second want shun) ]

@@ -6,7 +6,7 @@ ghost use Rattle.letters.specs.Lists.{anyOf};
 ghost use Rattle.word_scan.specs.Scan.{firstPlace};
 
 // Whether a word is among the words.
-pub fn occurs(words: &[u32], want: u32) -> bool
+fn occurs(words: &[u32], want: u32) -> bool
     ensures { λ r. ⌜ r ≡ anyOf (eqb want) (now (words .entry)) ⌝ }
 {
     for place in 0..words.len() {
@@ -17,11 +17,15 @@ pub fn occurs(words: &[u32], want: u32) -> bool
     false
 }
 
-// The first place where the first word is the one wanted and the second is not the one shunned. Where there is none,
-// it is the length of the shorter list.
+// The first place where the first word is the one wanted and the second is not the one shunned; the number of first
+// words where there is none. Most often the wanted word is not there at all, so that is looked at first, without the
+// second words.
 pub fn first_place(first: &[u32], second: &[u64], want: u32, shun: u64) -> usize
     ensures { λ r. ⌜ r ≡ firstPlace (now (first .entry)) (now (second .entry)) want shun ⌝ }
 {
+    if !occurs(first, want) {
+        return first.len();
+    }
     let mut place: usize = 0;
     while place < first.len() && place < second.len() {
         if first[place] == want {
@@ -31,5 +35,5 @@ pub fn first_place(first: &[u32], second: &[u64], want: u32, shun: u64) -> usize
         }
         place += 1;
     }
-    place
+    first.len()
 }

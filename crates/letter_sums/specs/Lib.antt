@@ -1,2 +1,2 @@
-pub mod Search
+pub mod Sums
 pub mod Definitions

@@ -3,17 +3,18 @@
 use mathlib.Core.Bool.{Bool, not, _&&_}
 use mathlib.Core.List.{List, [], _∷_}
 use mathlib.Core.Option.{Option, none, some}
-use Prim.Native.Nat.{ℕ, zero, suc, _+_, _*_, min}
+use Prim.Native.Nat.{ℕ, zero, suc, _+_, _*_, _^_, min}
 use lib.Bits.{bitXor}
 use lib.Dec.{eqb}
 use lib.ListN.{getD}
 use Rattle.letters.specs.declared.Letter.{Letter}
 use Rattle.letters.specs.declared.Letter.the-variants.{I, X, Y, Z}
+use Rattle.letters.specs.Letters.{xBit, zBit}
 use Rattle.letters.specs.Lists.{firstOf}
 use Rattle.pauli.specs.Letters.{xMask, zMask}
 use Rattle.pauli.specs.Order.{strings, stringsUpTo}
-use Rattle.search.specs.declared.Found.{Found}
-use Rattle.search.specs.declared.LetterWords.{LetterWords}
+use Rattle.letter_sums.specs.declared.Found.{Found}
+use Rattle.letter_sums.specs.declared.LetterWords.{LetterWords}
 
 -- There are words for as many qubits as a mask has bits.
 abbrev pub qubitRoom : ℕ
@@ -50,6 +51,10 @@ earliestUpTo first second n t want shun = firstOf (passes first second n want sh
 unfoldable pub foundAs : Option (List Letter) → Found
 foundAs none = Found.Nothing
 foundAs (some s) = Found.At (xMask s) (zMask s)
+
+-- The masks of `gap` letters I, a letter, and a string with the masks a and b behind it.
+abbrev pub placedAt : ℕ → Letter → ℕ → ℕ → Found
+placedAt gap l a b = Found.At ((xBit l + 2 * a) * 2 ^ gap) ((zBit l + 2 * b) * 2 ^ gap)
 
 -- The call: the earliest string of weight at most t on the qubits that have words.
 unfoldable pub earliestBy : LetterWords → ℕ → ℕ → ℕ → Found
