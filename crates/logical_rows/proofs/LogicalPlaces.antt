@@ -1,13 +1,14 @@
--- The logicals of a record by their places: the x rows are at the first, and the z rows, as many, behind them.
+-- The logicals of a record by their places: the x rows are at the first, and the z rows, as many, behind them. So the
+-- place of a row tells its family.
 use mathlib.Core.Path.{_≡_, ap, sym, _∙_}
 use Prim.Native.Nat.{ℕ, _+_, _-_, _*_, _<_, _≤_, min}
 use native.Mathlib.Omega.{arith}
-use lib.ListN.{length, getD, length-take, length-append, List·getD-append, List·getD-eq-default}
+use lib.ListN.{length, take, getD, length-take, length-append, List·getD-append, List·getD-eq-default}
 use lib.Seq.{getD-take, getD-append-add}
 use Rattle.pauli.specs.Product.{identity}
 use Rattle.code_record.specs.declared.Code.{Code}
 use Rattle.code_record.specs.Record.{rowRoom, logicalCount, logicalXs, logicalZs, Sized}
-use Rattle.admission.specs.Logicals.{logicals}
+use Rattle.admission.specs.Logicals.{logicals, familyAt, familyAfter}
 
 module _ (code : Code) (sized : Sized code) where
   pub xs-length : length (logicalXs code) ≡ min (logicalCount code) rowRoom
@@ -42,3 +43,12 @@ module _ (code : Code) (sized : Sized code) where
     none-at outside =
         let past : length (logicals code) ≤ place = omega (arith, logicals-length) in
         sym (List·getD-eq-default (logicals code) identity past)
+
+-- The rows before a logical tell its place, and so its family.
+pub family-at : (code : Code) (k place : ℕ) → place < length (logicals code)
+    → familyAfter k (take place (logicals code)) ≡ familyAt k place
+unfolding familyAfter
+family-at code k place inside =
+    let before : length (take place (logicals code)) ≡ place =
+    omega (arith, length-take place (logicals code), inside) in
+    ap (familyAt k) before
