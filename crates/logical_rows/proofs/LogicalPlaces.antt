@@ -23,6 +23,9 @@ module _ (code : Code) (sized : Sized code) where
   unfolding logicals
   logicals-length = omega (arith, length-append (logicalXs code) (logicalZs code), zs-length)
 
+  pub logicals-few : length (logicals code) ≤ 64
+  logicals-few = omega (arith, logicals-length, xs-length)
+
   module _ (place xs : ℕ) (held : xs ≡ length (logicalXs code)) where
     pub x-at : place < xs → getD (code .x) place identity ≡ getD (logicals code) place identity
     unfolding logicals logicalXs

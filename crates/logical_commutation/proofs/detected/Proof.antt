@@ -21,7 +21,7 @@ use Rattle.refusals.specs.Refusals.{refuseIf, _then_}
 use Rattle.stabilizer.specs.Checks.{firstFault}
 use Rattle.stabilizer.proofs.Walk.{Left, fault-start, fault-at, fault-end}
 use Rattle.admission.specs.Logicals.{logicals, familyAt, detected, detectedFault}
-use Rattle.logical_rows.proofs.LogicalPlaces.{xs-length, logicals-length}
+use Rattle.logical_rows.proofs.LogicalPlaces.{logicals-few}
 use Rattle.logical_commutation.proofs.MaskFault.{detected-at}
 use borrow.Author.Needs.{needs}
 use borrow.Author.Tests.{eq-eqb, ne-eqb}
@@ -64,8 +64,7 @@ start c = c .before .before .before
 few : (c : tie.At-loop Inv-loop μ-loop) → length (logicals (code (start c))) ≤ 64
 few c =
     let s = start c .before in
-    let sized = sized-of (s .args .code) (s .good .0) in
-    omega (arith, xs-length (s .args .code) sized, logicals-length (s .args .code) sized)
+    logicals-few (s .args .code) (sized-of (s .args .code) (s .good .0))
 
 abbrev at : tie.After-syndrome-mask Inv-loop μ-loop → tie.At-loop Inv-loop μ-loop
 at c = c .before .before .before
