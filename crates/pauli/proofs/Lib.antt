@@ -2,6 +2,7 @@ pub mod Modulo
 pub mod Masks
 pub mod Product
 pub mod Syndrome
+pub mod SyndromeMask
 pub mod Letters
 pub mod Rows
 pub mod EarlierOrder
