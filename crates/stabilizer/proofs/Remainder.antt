@@ -4,14 +4,13 @@
 use mathlib.Core.Bool.{Bool, true, false, cond, xor, _&&_}
 use mathlib.Core.List.{List, [], _∷_}
 use mathlib.Core.Path.{_≡_, refl, ap, ap₂, sym, _∙_}
-use Prim.Native.Nat.{ℕ, _+_, _*_, _%_, _^_, _≤_, _<_}
+use Prim.Native.Nat.{ℕ, _+_, _*_, _%_, _^_, _<_}
 use native.Mathlib.Nat.{mod-lt, mod-eq-of-lt, lt-of-lt-of-le, pow-le-pow-right}
 use native.Mathlib.Omega.{arith}
-use borrow.Author.Tests.{eqb-true, eq-eqb, ltb-true, lt-ltb}
+use borrow.Author.Tests.{eqb-true, eq-eqb, ltb-true}
 use lib.Bits.{bitXor, xor-block, xor-mod, xor-lt, xor-comm, xor-self, xor-zero-r}
 use lib.Dec.{eqb, ltb}
 use Rattle.pauli.specs.declared.Pauli.{Pauli}
-use Rattle.letters.specs.Lists.{allOf}
 use Rattle.pauli.specs.Product.{identity, product, sameMasks}
 use Rattle.pauli.proofs.Masks.{digit, xor-assoc, xor-swap}
 use Rattle.code_record.specs.Record.{onQubits}

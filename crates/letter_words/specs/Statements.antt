@@ -1,0 +1,26 @@
+-- What is stated of the words of a code's letters.
+use mathlib.Core.List.{List}
+use mathlib.Core.Path.{_≡_}
+use Prim.Native.Nat.{ℕ, _≤_}
+use lib.Dec.{eqb}
+use lib.ListN.{length}
+use Rattle.letters.specs.declared.Letter.{Letter}
+use Rattle.pauli.specs.Letters.{ofLetters}
+use Rattle.pauli.specs.Syndrome.{syndromeMask}
+use Rattle.code_record.specs.declared.Code.{Code}
+use Rattle.code_record.specs.Record.{generators}
+use Rattle.search.specs.Search.{qubitRoom, sumOf, passes}
+use Rattle.letter_words.specs.Words.{syndromeWords}
+
+-- A string's first words sum to its syndrome. Its second words sum to 0, so a search that shuns 1 looks at the first
+-- words alone.
+pub record WordsSumToSyndromes (c : Code) : Type 0 where
+  pub first : (s : List Letter) → length s ≡ c .n
+      → sumOf (syndromeWords c .first) (c .n) s ≡ syndromeMask (generators c) (ofLetters s)
+  pub second : (s : List Letter) → length s ≡ c .n → sumOf (syndromeWords c .second) (c .n) s ≡ 0
+  pub passing : (want : ℕ) (s : List Letter) → length s ≡ c .n
+      → passes (syndromeWords c .first) (syndromeWords c .second) (c .n) want 1 s
+      ≡ eqb (syndromeMask (generators c) (ofLetters s)) want
+
+abbrev pub SyndromesAreSummed : Type 0
+SyndromesAreSummed = (c : Code) → c .n ≤ qubitRoom → WordsSumToSyndromes c
