@@ -13,13 +13,16 @@ use Rattle.letters.specs.declared.Letter.the-variants.{I, X, Y, Z}
 use Rattle.letters.specs.Letters.{xBit, zBit, struckLetter}
 use Rattle.pauli.specs.declared.Pauli.{Pauli}
 use Rattle.pauli.specs.Letters.{xMask, zMask, rowOf, signedRow, ofLetters}
+use Rattle.pauli.specs.Order.{stringsUpTo}
 use Rattle.pauli.specs.Product.{product}
 use Rattle.pauli.specs.Syndrome.{syndromeMask}
+use Rattle.pauli.proofs.EarlierOrder.{stringsUpTo-listed}
+use Rattle.pauli.proofs.First.{same-search}
 use Rattle.pauli.proofs.Product.{pauli}
 use Rattle.pauli.proofs.SyndromeMask.{syndrome-mask-is-additive, syndrome-mask-of-masks}
 use Rattle.code_record.specs.declared.Code.{Code}
 use Rattle.code_record.specs.Record.{generators}
-use Rattle.search.specs.Search.{qubitRoom, wordAt, sumOf, sumsTo, passes}
+use Rattle.search.specs.Search.{qubitRoom, wordAt, sumOf, sumsTo, passes, earliestUpTo}
 use Rattle.search.proofs.Additive.{IsTable, sum-of-table}
 use Rattle.letter_words.specs.Statements.{SyndromesAreSummed}
 use Rattle.letter_words.specs.Words.{singleLetter, letterFor, wordsOf, wordQubits, syndromeWords}
@@ -106,13 +109,20 @@ module _ (c : Code) (few : c .n ≤ qubitRoom) (s : List Letter) (count : length
       ap (λ words. sumOf words (c .n) s) (filled-zeros (3 * c .n))
       ∙ words-sum (λ P. 0) (record { ofMasks = λ P Q a b. refl; ofProduct = λ P Q. refl }) (c .n) few s count
 
+  passes-syndrome : (want : ℕ)
+      → passes (syndromeWords c .first) (syndromeWords c .second) (c .n) want 1 s
+      ≡ eqb (syndromeMask (generators c) (ofLetters s)) want
+  unfolding passes sumsTo
+  passes-syndrome want =
+      ap₂ (λ (first second : ℕ). eqb first want && not (eqb second 1)) syndromes-sum zeros-sum
+      ∙ and-true (eqb (syndromeMask (generators c) (ofLetters s)) want)
+
 pub syndromes-are-summed : SyndromesAreSummed
-unfolding passes sumsTo
+unfolding earliestUpTo
 syndromes-are-summed c few = record {
   first = syndromes-sum c few;
   second = zeros-sum c few;
-  passing = λ want s count.
-      ap₂ (λ (first second : ℕ). eqb first want && not (eqb second 1)) (syndromes-sum c few s count)
-      (zeros-sum c few s count)
-      ∙ and-true (eqb (syndromeMask (generators c) (ofLetters s)) want);
+  found = λ t want.
+      same-search _ _ (stringsUpTo (c .n) t) (stringsUpTo-listed (c .n) t)
+      (λ s meets. passes-syndrome c few s (meets .0) want);
 }
