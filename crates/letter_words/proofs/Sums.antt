@@ -84,7 +84,7 @@ module _ (word : Pauli → ℕ) (additive : Additive word) where
 
 -- ---- syndromes
 
-pub syndromes-additive : (rows : List Pauli) → Additive (syndromeMask rows)
+syndromes-additive : (rows : List Pauli) → Additive (syndromeMask rows)
 syndromes-additive rows = record {
   ofMasks = syndrome-mask-of-masks rows;
   ofProduct = syndrome-mask-is-additive rows;

@@ -1,5 +1,5 @@
--- The words of a code's letters, by which the search goes through its errors: of each of X, Y, Z at each qubit what a
--- function of Paulis is there.
+-- The words of a code's letters, by which the search goes through its errors: what a function of Paulis is of each of
+-- X, Y, Z at each qubit.
 use mathlib.Core.Bool.{cond}
 use mathlib.Core.List.{List, [], _∷_}
 use Prim.Native.Nat.{ℕ, zero, suc, _+_, _-_, _*_, _/_, _%_, _^_, min}
@@ -16,7 +16,8 @@ use Rattle.code_record.specs.Record.{generators}
 use Rattle.search.specs.declared.LetterWords.{LetterWords}
 use Rattle.search.specs.Search.{qubitRoom}
 
--- The letter l on one qubit, with sign +. Places count from 0, as bits do, and a mask has 32 of them.
+-- RULES, "Letters and rows": the row with sign + that has the letter l on one qubit and I on the others. Places count
+-- from 0, as bits do, and a mask has 32 of them.
 unfoldable pub singleLetter : ℕ → Letter → Pauli
 singleLetter place l = rowOf Plus (xBit l * 2 ^ place % 2 ^ 32) (zBit l * 2 ^ place % 2 ^ 32)
 
@@ -33,8 +34,8 @@ wordRoom = 3 * qubitRoom
 unfoldable pub filledWords : (ℕ → ℕ) → ℕ → List ℕ
 filledWords word end = wordsFrom (λ at. cond (ltb at end) (word at) 0) 0 wordRoom
 
--- The letter whose word stands at a place: that of the letter numbered l at the qubit with m of n qubits to its right
--- stands at 3 * m + l.
+-- The letter whose word stands at a place: the letter numbered l at the qubit with m of n qubits to its right has the
+-- place 3 * m + l.
 unfoldable pub letterFor : ℕ → ℕ → Pauli
 letterFor n at = singleLetter (n - 1 - at / 3) (struckLetter (at % 3))
 
@@ -46,7 +47,7 @@ wordsOf word n = filledWords (λ at. word (letterFor n at)) (3 * n)
 unfoldable pub wordQubits : Code → ℕ
 wordQubits c = min (c .n) qubitRoom
 
--- The first words of a code's letters are their syndromes; the second words are 0.
+-- RULES, "Decoding": the first words are the syndromes of the letters. The second words are 0.
 unfoldable pub syndromeWords : Code → LetterWords
 syndromeWords c = record {
   qubits = wordQubits c;

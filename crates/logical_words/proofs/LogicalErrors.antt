@@ -34,9 +34,9 @@ use Rattle.elimination.proofs.Passed.{fault-told, rows-told, passed-within, pas
 use Rattle.search.specs.declared.LetterWords.{LetterWords}
 use Rattle.search.specs.Search.{qubitRoom, sumOf, sumsTo, passes, earliestUpTo, earliestBy, foundAs}
 use Rattle.letter_words.specs.Words.{wordsOf, wordQubits}
-use Rattle.letter_words.proofs.Sums.{Additive, words-sum, all-qubits, syndromes-additive}
+use Rattle.letter_words.proofs.Sums.{Additive, words-sum, all-qubits, syndromes-sum}
 use Rattle.admission.specs.Distance.{isLogicalError, logicalErrorUpTo}
-use Rattle.logical_words.specs.Statements.{LogicalErrorsAreFound}
+use Rattle.logical_words.specs.Statements.{LogicalWordsAreSummed, LogicalErrorsAreFound}
 use Rattle.logical_words.specs.Words.{logicalWords}
 
 remainders-additive : (n : ℕ) (rows : List Pauli) → Additive (remainderWord n rows)
@@ -47,20 +47,25 @@ remainders-additive n rows = record {
 
 -- ---- the sums of words
 
-module _ (c : Code) (hs : ReducedRows) (few : c .n ≤ qubitRoom) (s : List Letter) (count : length s ≡ c .n) where
-  sum-of : (word : Pauli → ℕ) → Additive word → sumOf (wordsOf word (wordQubits c)) (c .n) s ≡ word (ofLetters s)
-  sum-of word additive =
-      ap (λ (n : ℕ). sumOf (wordsOf word n) (c .n) s) (all-qubits c few) ∙ words-sum word additive (c .n) few s count
+pub logical-words-are-summed : LogicalWordsAreSummed
+unfolding logicalWords
+logical-words-are-summed c rows few s count =
+    let word = remainderWord (rows .n) (rowsIn rows) in
+    record {
+      first = syndromes-sum c few s count;
+      second = ap (λ (n : ℕ). sumOf (wordsOf word n) (c .n) s) (all-qubits c few)
+          ∙ words-sum word (remainders-additive (rows .n) (rowsIn rows)) (c .n) few s count;
+    }
 
-  pub passes-words : (want shun : ℕ)
-      → passes (logicalWords c hs .first) (logicalWords c hs .second) (c .n) want shun s
-      ≡ (eqb (syndromeMask (generators c) (ofLetters s)) want
-      && not (eqb (remainderWord (hs .n) (rowsIn hs) (ofLetters s)) shun))
-  unfolding passes sumsTo logicalWords
-  passes-words want shun =
-      ap₂ (λ (first second : ℕ). eqb first want && not (eqb second shun))
-      (sum-of (syndromeMask (generators c)) (syndromes-additive (generators c)))
-      (sum-of (remainderWord (hs .n) (rowsIn hs)) (remainders-additive (hs .n) (rowsIn hs)))
+pub passes-words : (c : Code) (rows : ReducedRows) → c .n ≤ qubitRoom
+    → (s : List Letter) → length s ≡ c .n → (want shun : ℕ)
+    → passes (logicalWords c rows .first) (logicalWords c rows .second) (c .n) want shun s
+    ≡ (eqb (syndromeMask (generators c) (ofLetters s)) want
+    && not (eqb (remainderWord (rows .n) (rowsIn rows) (ofLetters s)) shun))
+unfolding passes sumsTo
+passes-words c rows few s count want shun =
+    let sums = logical-words-are-summed c rows few s count in
+    ap₂ (λ (first second : ℕ). eqb first want && not (eqb second shun)) (sums .first) (sums .second)
 
 -- ---- a code whose generators pass
 

@@ -1,17 +1,16 @@
 -- The words of a code's letters, by which the search goes through its logical errors.
-use Rattle.pauli.specs.Syndrome.{syndromeMask}
 use Rattle.code_record.specs.declared.Code.{Code}
-use Rattle.code_record.specs.Record.{generators}
 use Rattle.stabilizer.specs.Canonical.{remainderWord}
 use Rattle.reduced_rows.specs.declared.ReducedRows.{ReducedRows}
 use Rattle.reduced_rows.specs.Rows.{rowsIn}
 use Rattle.search.specs.declared.LetterWords.{LetterWords}
-use Rattle.letter_words.specs.Words.{wordsOf, wordQubits}
+use Rattle.letter_words.specs.Words.{wordsOf, wordQubits, syndromeWords}
 
--- The first words are the letters' syndromes, and the second what the rows leave of the letters.
+-- RULES, "Distance": a logical error has a syndrome of zeros and is not in the group, phase aside. So the first words
+-- are the syndromes of the letters, and the second what the rows, the canonical generators, leave of them.
 unfoldable pub logicalWords : Code → ReducedRows → LetterWords
 logicalWords c rows = record {
   qubits = wordQubits c;
-  first = wordsOf (syndromeMask (generators c)) (wordQubits c);
+  first = syndromeWords c .first;
   second = wordsOf (remainderWord (rows .n) (rowsIn rows)) (wordQubits c);
 }
