@@ -4,3 +4,4 @@ pub mod Masks
 pub mod Words
 pub mod Scanned
 pub mod ArrayLengths
+pub mod Additive

@@ -2,6 +2,7 @@ pub mod Modulo
 pub mod Masks
 pub mod Product
 pub mod Syndrome
+pub mod SyndromeMask
 pub mod Undetected
 pub mod Letters
 pub mod Rows
