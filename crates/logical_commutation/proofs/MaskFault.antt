@@ -1,6 +1,5 @@
 -- What 9 finds at one logical, from its syndrome as a mask and its place.
 use mathlib.Core.Bool.{Bool, not}
-use mathlib.Core.Option.{Option}
 use mathlib.Core.Path.{_≡_, ap, ap₂, sym, _∙_}
 use Prim.Native.Nat.{ℕ, _<_}
 use lib.Dec.{eqb}

@@ -1,5 +1,4 @@
 -- The generators are the first r rows of an array of 32.
-use Prim.Native.Nat.{_<_}
 use native.Mathlib.Omega.{arith}
 use Rattle.code_record.proofs.ArrayLengths.{sized-of}
 use Rattle.syndrome_mask.proofs.GeneratorBits.{generators-length}
