@@ -2,7 +2,7 @@
 use mathlib.Core.Bool.{not, _&&_, and-true}
 use mathlib.Core.List.{List}
 use mathlib.Core.Path.{_≡_, refl, ap, ap₂, sym, _∙_}
-use Prim.Native.Nat.{ℕ, suc, _+_, _-_, _*_, _/_, _%_, _^_, _≤_, _<_}
+use Prim.Native.Nat.{ℕ, suc, _+_, _-_, _*_, _/_, _%_, _^_, _≤_, _<_, min}
 use native.Mathlib.Nat.{zero-mul}
 use native.Mathlib.Omega.{arith}
 use lib.Bits.{bitXor, xor-self}
@@ -22,10 +22,10 @@ use Rattle.pauli.proofs.Product.{pauli}
 use Rattle.pauli.proofs.SyndromeMask.{syndrome-mask-is-additive, syndrome-mask-of-masks}
 use Rattle.code_record.specs.declared.Code.{Code}
 use Rattle.code_record.specs.Record.{generators}
-use Rattle.letter_sums.specs.Sums.{qubitRoom, wordAt, sumOf, sumsTo, passes, earliestUpTo}
+use Rattle.letter_sums.specs.Sums.{qubitRoom, wordAt, sumOf, sumsTo, passes, earliestUpTo, earliestBy, foundAs}
 use Rattle.letter_sums.proofs.Additive.{IsTable, sum-of-table}
 use Rattle.letter_words.specs.Statements.{SyndromesAreSummed}
-use Rattle.letter_words.specs.Words.{singleLetter, letterFor, wordsOf, wordQubits, syndromeWords}
+use Rattle.letter_words.specs.Words.{singleLetter, letterFor, wordsOf, wordQubits, syndromeWords, earliestWith}
 use Rattle.letter_words.proofs.Singles.{masks-of-single}
 use Rattle.letter_words.proofs.Tables.{filled-word, filled-zeros}
 
@@ -117,12 +117,29 @@ module _ (c : Code) (few : c .n ≤ qubitRoom) (s : List Letter) (count : length
       ap₂ (λ (first second : ℕ). eqb first want && not (eqb second 1)) syndromes-sum zeros-sum
       ∙ and-true (eqb (syndromeMask (generators c) (ofLetters s)) want)
 
+-- The call searches all qubits of a code that has words for them.
+pub searched-qubits : (c : Code) → c .n ≤ qubitRoom → min (wordQubits c) qubitRoom ≡ c .n
+searched-qubits c few = omega (arith, all-qubits c few)
+
+module _ (c : Code) (few : c .n ≤ qubitRoom) (t want : ℕ) where
+  finds-syndrome : earliestUpTo (syndromeWords c .first) (syndromeWords c .second) (c .n) t want 1
+      ≡ earliestWith c t want
+  unfolding earliestUpTo earliestWith
+  finds-syndrome =
+      same-search _ _ (stringsUpTo (c .n) t) (stringsUpTo-listed (c .n) t)
+      (λ s meets. passes-syndrome c few s (meets .0) want)
+
+  call-finds-syndrome : earliestBy (syndromeWords c) t want 1 ≡ foundAs (earliestWith c t want)
+  unfolding earliestBy syndromeWords
+  call-finds-syndrome =
+      let words = syndromeWords c in
+      ap (λ (n : ℕ). foundAs (earliestUpTo (words .first) (words .second) n t want 1)) (searched-qubits c few)
+      ∙ ap foundAs finds-syndrome
+
 pub syndromes-are-summed : SyndromesAreSummed
-unfolding earliestUpTo
 syndromes-are-summed c few = record {
   first = syndromes-sum c few;
   second = zeros-sum c few;
-  found = λ t want.
-      same-search _ _ (stringsUpTo (c .n) t) (stringsUpTo-listed (c .n) t)
-      (λ s meets. passes-syndrome c few s (meets .0) want);
+  found = finds-syndrome c few;
+  call = call-finds-syndrome c few;
 }

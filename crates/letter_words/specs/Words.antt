@@ -2,14 +2,17 @@
 -- X, Y, Z at each qubit.
 use mathlib.Core.Bool.{cond}
 use mathlib.Core.List.{List, [], _∷_}
+use mathlib.Core.Option.{Option}
 use Prim.Native.Nat.{ℕ, zero, suc, _+_, _-_, _*_, _/_, _%_, _^_, min}
-use lib.Dec.{ltb}
+use lib.Dec.{eqb, ltb}
 use lib.ListN.{replicate}
 use Rattle.letters.specs.declared.Letter.{Letter}
 use Rattle.letters.specs.declared.Sign.the-variants.{Plus}
 use Rattle.letters.specs.Letters.{xBit, zBit, struckLetter}
+use Rattle.letters.specs.Lists.{firstOf}
 use Rattle.pauli.specs.declared.Pauli.{Pauli}
-use Rattle.pauli.specs.Letters.{rowOf}
+use Rattle.pauli.specs.Letters.{rowOf, ofLetters}
+use Rattle.pauli.specs.Order.{stringsUpTo}
 use Rattle.pauli.specs.Syndrome.{syndromeMask}
 use Rattle.code_record.specs.declared.Code.{Code}
 use Rattle.code_record.specs.Record.{generators}
@@ -54,3 +57,8 @@ syndromeWords c = record {
   first = wordsOf (syndromeMask (generators c)) (wordQubits c);
   second = replicate wordRoom 0;
 }
+
+-- RULES, "Decoding": the earliest string of weight at most t with a given syndrome, here as a mask.
+unfoldable pub earliestWith : Code → ℕ → ℕ → Option (List Letter)
+earliestWith c t want =
+    firstOf (λ s. eqb (syndromeMask (generators c) (ofLetters s)) want) (stringsUpTo (c .n) t)

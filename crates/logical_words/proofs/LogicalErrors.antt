@@ -3,7 +3,7 @@
 use mathlib.Core.Bool.{not, _&&_}
 use mathlib.Core.List.{List}
 use mathlib.Core.Path.{_≡_, refl, ap, ap₂, _∙_}
-use Prim.Native.Nat.{ℕ, _^_, _≤_, _<_, min}
+use Prim.Native.Nat.{ℕ, _^_, _≤_, _<_}
 use native.Mathlib.Nat.{lt-of-lt-of-le, pow-le-pow-right}
 use native.Mathlib.Omega.{arith}
 use lib.Dec.{eqb}
@@ -33,8 +33,8 @@ use Rattle.elimination.specs.Answers.{elimination}
 use Rattle.elimination.proofs.Passed.{fault-told, rows-told, passed-within, passed-independent}
 use Rattle.letter_sums.specs.declared.LetterWords.{LetterWords}
 use Rattle.letter_sums.specs.Sums.{qubitRoom, sumOf, sumsTo, passes, earliestUpTo, earliestBy, foundAs}
-use Rattle.letter_words.specs.Words.{wordsOf, wordQubits}
-use Rattle.letter_words.proofs.Sums.{Additive, words-sum, all-qubits, syndromes-sum}
+use Rattle.letter_words.specs.Words.{wordsOf}
+use Rattle.letter_words.proofs.Sums.{Additive, words-sum, all-qubits, searched-qubits, syndromes-sum}
 use Rattle.admission.specs.Distance.{isLogicalError, logicalErrorUpTo}
 use Rattle.logical_words.specs.Statements.{LogicalWordsAreSummed, LogicalErrorsAreFound}
 use Rattle.logical_words.specs.Words.{logicalWords}
@@ -103,10 +103,10 @@ module _ (c : Code) (passed : elimination c .answer ≡ Checked.Passed) where
       same-search _ _ (stringsUpTo (c .n) v) (stringsUpTo-listed (c .n) v) (λ s meets. passes-logical s (meets .0))
 
   call : (v : ℕ) → earliestBy words v 0 0 ≡ foundAs (logicalErrorUpTo c v)
-  unfolding earliestBy logicalWords wordQubits
+  unfolding earliestBy logicalWords
   call v =
-      let all : min (min (c .n) qubitRoom) qubitRoom ≡ c .n = omega (arith, few) in
-      ap (λ (n : ℕ). foundAs (earliestUpTo (words .first) (words .second) n v 0 0)) all ∙ ap foundAs (found v)
+      ap (λ (n : ℕ). foundAs (earliestUpTo (words .first) (words .second) n v 0 0)) (searched-qubits c few)
+      ∙ ap foundAs (found v)
 
 pub logical-errors-are-found : LogicalErrorsAreFound
 logical-errors-are-found c passed = record { found = found c passed; call = call c passed }
