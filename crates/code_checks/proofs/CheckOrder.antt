@@ -1,6 +1,6 @@
 -- The checks of a record in their order. With canonical generators the checks of w are those of the definition, since
 -- these generators tell the group's members; and so is that of the distance.
-use mathlib.Core.Option.{Option, none}
+use mathlib.Core.Option.{Option}
 use mathlib.Core.Path.{_≡_, refl, ap, ap₂, sym, _∙_}
 use Prim.Native.Nat.{ℕ}
 use Rattle.code_record.specs.declared.Code.{Code}

@@ -2,7 +2,7 @@
 -- that of the string. So with canonical generators the check is 14.
 use mathlib.Core.List.{List}
 use mathlib.Core.Option.{Option, none, some, Option·map}
-use mathlib.Core.Path.{_≡_, refl, ap, ap₂, sym, _∙_}
+use mathlib.Core.Path.{_≡_, refl, ap, ap₂, _∙_}
 use Prim.Native.Nat.{ℕ, _-_, _≤_}
 use native.Mathlib.Omega.{arith}
 use lib.ListN.{length}
@@ -14,10 +14,8 @@ use Rattle.pauli.proofs.First.{first-is-earliest}
 use Rattle.code_record.specs.declared.Code.{Code}
 use Rattle.code_record.specs.Record.{generators}
 use Rattle.code_record.proofs.Limits.{limits}
-use Rattle.refusals.specs.declared.Checked.{Checked}
 use Rattle.refusals.specs.declared.Refusal.{Refusal}
 use Rattle.reduced_rows.specs.declared.ReducedRows.{ReducedRows}
-use Rattle.elimination.specs.Answers.{elimination}
 use Rattle.elimination.proofs.Passed.{fault-told, passed-within}
 use Rattle.letter_sums.specs.declared.Found.{Found}
 use Rattle.letter_sums.specs.declared.LetterWords.{LetterWords}
