@@ -6,7 +6,8 @@ use Rattle.refusals.specs.declared.Refusal.{Refusal}
 use Rattle.refusals.specs.Refusals.{checkedRefusal, _then_}
 
 module _ (fault next : Option Refusal) {checked : Checked} (known : checkedRefusal checked ≡ fault) where
-  pub refused-first : {refusal : Refusal} → checked ≡ Checked.Refused refusal → checkedRefusal checked ≡ (fault then next)
+  pub refused-first : {refusal : Refusal} → checked ≡ Checked.Refused refusal
+      → checkedRefusal checked ≡ (fault then next)
   unfolding _then_
   refused-first told =
       ap checkedRefusal told ∙ ap (λ f. f then next) (ap checkedRefusal (sym told) ∙ known)

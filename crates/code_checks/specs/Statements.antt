@@ -8,8 +8,8 @@ use Rattle.elimination.specs.Answers.{elimination}
 use Rattle.admission.specs.Distance.{claimedWeightFault, claimedDetectedFault, claimedInGroupFault}
 use Rattle.claim_checks.specs.Claim.{claimFault}
 
--- RULES, "Admission": with the canonical generators of a code that passes 6 to 8, the check of w is 11 to 13 as they are
--- defined.
+-- RULES, "Admission": with the canonical generators of a code that passes 6 to 8, the check of w is 11 to 13 as they
+-- are defined.
 abbrev pub ClaimIsChecked : Type 0
 ClaimIsChecked =
     (at : ℕ) (c : Code) → elimination c .answer ≡ Checked.Passed

@@ -46,7 +46,8 @@ refuted-as : (at n : ℕ) (o : Option (List Letter)) → ((s : List Letter) → 
 unfolding foundAs
 refuted-as at n none short = refl
 refuted-as at n (some s) short =
-    ap (λ pair. some (Refusal.DistanceRefuted at pair)) (pair-of-string n (xMask s) (zMask s) s (short s refl) refl refl)
+    ap (λ pair. some (Refusal.DistanceRefuted at pair))
+    (pair-of-string n (xMask s) (zMask s) s (short s refl) refl refl)
 
 pub distance-is-checked : DistanceIsChecked
 unfolding distanceBy distanceFault
