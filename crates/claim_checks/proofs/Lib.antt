@@ -1,1 +1,2 @@
 pub mod ClaimFaults
+pub mod Theorems

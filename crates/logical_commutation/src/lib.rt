@@ -1,8 +1,8 @@
 // Check 9: the logicals of a record commute with its generators.
 use code_record::Code;
-use logical_rows::logical_count;
 use logical_rows::logical_family;
 use logical_rows::logical_row;
+use logical_rows::logical_row_count;
 use refusals::Checked;
 use refusals::Refusal;
 use syndrome_mask::syndrome_mask;
@@ -18,7 +18,7 @@ fn detected(code: Code) -> Checked
     ensures { λ r. ⌜ checkedRefusal r ≡ detectedFault code ⌝ }
 {
     let first = code.generators_at() + code.r;
-    let count = logical_count(code);
+    let count = logical_row_count(code);
     let mut place: usize = 0;
     while place < count {
         if syndrome_mask(code, logical_row(code, place)) != 0 {

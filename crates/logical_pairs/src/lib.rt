@@ -1,9 +1,9 @@
 // Check 10: the logicals of a record pair. Partners anticommute, and all others commute.
 use code_record::Code;
 use code_record::pair_count;
-use logical_rows::logical_count;
 use logical_rows::logical_family;
 use logical_rows::logical_row;
+use logical_rows::logical_row_count;
 use refusals::Checked;
 use refusals::Refusal;
 ghost use mathlib.Core.Bool.{true};
@@ -44,7 +44,7 @@ fn pairing(code: Code) -> Checked
     ensures { λ r. ⌜ checkedRefusal r ≡ pairingFault code ⌝ }
 {
     let first = code.generators_at() + code.r;
-    let count = logical_count(code);
+    let count = logical_row_count(code);
     let mut place: usize = 0;
     while place < count {
         if pairs_wrongly(code, place) {

@@ -22,8 +22,8 @@ fn x_count(code: Code) -> usize
     ROW_ROOM
 }
 
-// How many logicals a record has.
-pub fn logical_count(code: Code) -> usize
+// How many logicals a record has, the x and the z rows together.
+pub fn logical_row_count(code: Code) -> usize
     ensures { λ r. ⌜ r ≡ length (logicals code) ⌝ }
 {
     2 * x_count(code)

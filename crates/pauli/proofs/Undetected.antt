@@ -1,6 +1,6 @@
 -- A syndrome as a mask: how it grows by a row, how many bits it has, and that it is 0 exactly where the Pauli commutes
 -- with every row. Each is an induction over the rows, the first of which has the lowest bit.
-use mathlib.Core.Bool.{Bool, true, false, not, cond, _&&_}
+use mathlib.Core.Bool.{Bool, true, false, not, cond, true≢false, false≢true}
 use mathlib.Core.List.{List, [], _∷_}
 use mathlib.Core.Path.{_≡_, refl, ap, sym, _∙_}
 use Prim.Native.Nat.{ℕ, suc, _+_, _*_, _^_, _<_}
@@ -63,27 +63,18 @@ doubled-zero m = by (eqb m 0) refl
     by true e = eq-eqb (0 + 2 * m) 0 (omega (arith, eqb-true m 0 e)) ∙ sym e
     by false e = ne-eqb (0 + 2 * m) 0 (λ h. eqb-false m 0 e (omega (arith, h))) ∙ sym e
 
-all-first : {A : Type 0} (test : A → Bool) (x : A) (xs : List A)
-    → allOf test (x ∷ xs) ≡ (test x && allOf test xs)
-unfolding allOf
-all-first test x xs = go (test x)
-  where
-    go : (t : Bool) → elim t [ true ↦ allOf test xs | false ↦ false ] ≡ (t && allOf test xs)
-    go true = refl
-    go false = refl
-
 pub mask-undetected : (rows : List Pauli) (P : Pauli) → eqb (syndromeMask rows P) 0 ≡ allOf (commutes P) rows
 unfolding syndromeMask syndrome maskOfBits allOf anticommutes
 mask-undetected [] P = refl
-mask-undetected (g ∷ rows) P =
-    first (commutes g P) (mask-undetected rows P)
-    ∙ ap (λ t. t && allOf (commutes P) rows) (commutes-comm g P)
-    ∙ sym (all-first (commutes P) g rows)
+mask-undetected (g ∷ rows) P = first (commutes g P) (commutes P g) (commutes-comm g P) (mask-undetected rows P)
   where
-    first : (t : Bool) → eqb (syndromeMask rows P) 0 ≡ allOf (commutes P) rows
-        → eqb (cond (not t) 1 0 + 2 * syndromeMask rows P) 0 ≡ (t && allOf (commutes P) rows)
-    first true rest = doubled-zero (syndromeMask rows P) ∙ rest
-    first false rest = ne-eqb (1 + 2 * syndromeMask rows P) 0 (λ h. omega (arith, h))
+    first : (s t : Bool) → s ≡ t → eqb (syndromeMask rows P) 0 ≡ allOf (commutes P) rows
+        → eqb (cond (not s) 1 0 + 2 * syndromeMask rows P) 0
+        ≡ elim t [ true ↦ allOf (commutes P) rows | false ↦ false ]
+    first true true same rest = doubled-zero (syndromeMask rows P) ∙ rest
+    first true false same rest = absurd (true≢false same)
+    first false true same rest = absurd (false≢true same)
+    first false false same rest = ne-eqb (1 + 2 * syndromeMask rows P) 0 (λ h. omega (arith, h))
 
 not-all : {A : Type 0} (test : A → Bool) (xs : List A) → not (allOf test xs) ≡ anyOf (λ x. not (test x)) xs
 unfolding allOf anyOf

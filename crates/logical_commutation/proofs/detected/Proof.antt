@@ -70,7 +70,7 @@ abbrev at : tie.After-syndrome-mask Inv-loop μ-loop → tie.At-loop Inv-loop μ
 at c = c .before .before .before
 
 inside : (c : tie.After-syndrome-mask Inv-loop μ-loop) → at c .loop .place < length (logicals (code (start (at c))))
-inside c = omega (arith, c .before .before .loop-test .taken, at c .before .logical-count .ensures)
+inside c = omega (arith, c .before .before .loop-test .taken, at c .before .logical-row-count .ensures)
 
 here : (c : tie.After-syndrome-mask Inv-loop μ-loop) (family : Family) {t : Bool}
     → not (eqb (c .syndrome-mask .result) 0) ≡ t
@@ -131,7 +131,8 @@ returns-2 c =
     let at = c .before in
     let s = start at in
     let rows = logicals (code s) in
-    let end : length rows ≤ at .loop .place = omega (arith, c .loop-test .left, at .before .logical-count .ensures) in
+    let end : length rows ≤ at .loop .place =
+    omega (arith, c .loop-test .left, at .before .logical-row-count .ensures) in
     sym (fault-end (detected (code s)) rows (length rows) (at .loop .place) (line s) (inl end)) ∙ at .loop .inv .1
 
 pub detected-spec : {M : Type 1} → statement M

@@ -67,7 +67,7 @@ abbrev at : tie.After-pairs-wrongly Inv-loop μ-loop → tie.At-loop Inv-loop μ
 at c = c .before .before
 
 inside : (c : tie.In-loop Inv-loop μ-loop) → c .before .loop .place < length (logicals (code (start (c .before))))
-inside c = omega (arith, c .loop-test .taken, c .before .before .logical-count .ensures)
+inside c = omega (arith, c .loop-test .taken, c .before .before .logical-row-count .ensures)
 
 here : (c : tie.After-pairs-wrongly Inv-loop μ-loop) (family : Family) {t : Bool} → c .pairs-wrongly .result ≡ t
     → let s = start (at c) in
@@ -123,7 +123,8 @@ returns-2 c =
     let at = c .before in
     let s = start at in
     let rows = logicals (code s) in
-    let end : length rows ≤ at .loop .place = omega (arith, c .loop-test .left, at .before .logical-count .ensures) in
+    let end : length rows ≤ at .loop .place =
+    omega (arith, c .loop-test .left, at .before .logical-row-count .ensures) in
     sym (fault-end (mispaired (code s)) rows (length rows) (at .loop .place) (line s) (inl end)) ∙ at .loop .inv .1
 
 pub pairing-spec : {M : Type 1} → statement M
