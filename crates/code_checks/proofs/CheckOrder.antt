@@ -7,7 +7,7 @@ use Rattle.code_record.specs.declared.Code.{Code}
 use Rattle.code_record.specs.Record.{generators, generatorsAt, limitsFault}
 use Rattle.refusals.specs.declared.Checked.{Checked}
 use Rattle.refusals.specs.declared.Refusal.{Refusal}
-use Rattle.refusals.specs.Refusals.{checkedRefusal, refuseIf, _then_}
+use Rattle.refusals.specs.Refusals.{checkedRefusal, _then_}
 use Rattle.stabilizer.specs.Checks.{generatorFault, groupFault}
 use Rattle.elimination.specs.declared.Elimination.{Elimination}
 use Rattle.elimination.specs.Answers.{elimination}
@@ -16,17 +16,10 @@ use Rattle.admission.specs.Admission.{faultButDistance, codeFault}
 use Rattle.admission.specs.Distance.{claimedWeightFault, claimedDetectedFault, claimedInGroupFault, distanceFault}
 use Rattle.admission.specs.Logicals.{detectedFault, pairingFault}
 use Rattle.claim_checks.specs.Claim.{claimFault}
+use Rattle.claim_checks.proofs.Theorems.{claim-checks-are-of-admission}
 use Rattle.distance.specs.Search.{distanceBy}
 use Rattle.distance.proofs.Refuted.{distance-is-checked}
-use Rattle.code_checks.specs.Statements.{ClaimIsChecked}
 use Rattle.code_checks.proofs.Sequence.{refused-first, passed-first, first-none, in-order}
-
-pub claim-is-checked : ClaimIsChecked
-unfolding claimFault claimedInGroupFault
-claim-is-checked at c passed =
-    ap
-    (λ member. claimedWeightFault at c then claimedDetectedFault at c then refuseIf member (Refusal.ClaimedInGroup at))
-    (contains-decides-membership c passed (c .w))
 
 module _ (at : ℕ) (c : Code) {e : Elimination} (known : e ≡ elimination c) where
   abbrev logicals : Option Refusal
@@ -68,7 +61,8 @@ module _ (at : ℕ) (c : Code) {e : Elimination} (known : e ≡ elimination c) w
     weights-decide told =
         let rows = ap (λ r. r .reduced) known in
         let passes = sym (ap (λ r. r .answer) known) ∙ passed in
-        ap₂ _then_ (ap (claimFault at c) rows ∙ claim-is-checked at c passes)
+        ap₂ _then_ (ap (claimFault at c) rows
+        ∙ claim-checks-are-of-admission at c (elimination c .reduced) (contains-decides-membership c passes (c .w)))
         (ap (distanceBy at c) rows ∙ distance-is-checked at c passes)
         ∙ passed-first logicals weights within told
         ∙ behind-generators

@@ -1,2 +1,3 @@
 pub mod Sequence
 pub mod CheckOrder
+pub mod Numbers
