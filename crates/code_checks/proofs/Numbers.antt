@@ -1,5 +1,5 @@
--- The numbers with which the call refuses: those of its checks, one by one. Since 14 is that of the last alone, a refusal
--- with 14 is from there, and its two errors are those of the definition.
+-- The numbers with which the call refuses: those of its checks, one by one. Since 14 is that of the last alone, a
+-- refusal with 14 is from there, and its two errors are those of the definition.
 use mathlib.Core.Bool.{_||_, false≢true}
 use mathlib.Core.List.{List, [], _∷_, _++_}
 use mathlib.Core.Option.{Option, none, some, Option·map, Option·some-injective}
@@ -46,7 +46,8 @@ but-distance Law at c law =
 
 more : (numbers : List ℕ) (refusal : Refusal) → Among early refusal → Among (early ++ numbers) refusal
 more numbers refusal h =
-    any-append (eqb (values refusal .number)) early numbers ∙ ap (λ b. b || anyOf (eqb (values refusal .number)) numbers) h
+    any-append (eqb (values refusal .number)) early numbers
+    ∙ ap (λ b. b || anyOf (eqb (values refusal .number)) numbers) h
 
 distance-lawful : (at : ℕ) (c : Code) → IfRefused (Among (early ++ 14 ∷ 15 ∷ [])) (distanceFault at c)
 unfolding distanceFault anyOf

@@ -18,7 +18,7 @@ use Rattle.admission.specs.Admission.{codeFault, refusedReading, readingOf, che
 use Rattle.admission.proofs.Admitted.{form-has-nothing-behind}
 
 -- The record that the checks are made on is within limits.
-read-within : (s : List ℕ) (q : SheetRead) (rest : List ℕ) → readForm s ≡ got q rest → withinLimits (q .code) ≡ true
+pub read-within : (s : List ℕ) (q : SheetRead) (rest : List ℕ) → readForm s ≡ got q rest → withinLimits (q .code) ≡ true
 read-within s q rest form = reads-are-lawful s q [] (form-has-nothing-behind s q rest form) .limits
 
 module _ (s : List ℕ) (form : LinesReading) where

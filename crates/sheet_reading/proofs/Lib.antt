@@ -1,1 +1,2 @@
 pub mod FormChecked
+pub mod WithinLimits
