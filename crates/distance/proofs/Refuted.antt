@@ -1,12 +1,13 @@
 -- What the search answers is what the definition's search finds, as masks; and the pair of masks that have 32 bits is
 -- that of the string. So with canonical generators the check is 14.
-use mathlib.Core.List.{List}
+use mathlib.Core.List.{List, [], _∷_}
 use mathlib.Core.Option.{Option, none, some, Option·map}
 use mathlib.Core.Path.{_≡_, refl, ap, ap₂, _∙_}
 use Prim.Native.Nat.{ℕ, _-_, _≤_}
 use native.Mathlib.Omega.{arith}
 use lib.ListN.{length}
 use Rattle.letters.specs.declared.Letter.{Letter}
+use Rattle.letters.specs.Lists.{anyOf}
 use Rattle.pauli.specs.Letters.{ofLetters, xMask, zMask}
 use Rattle.pauli.specs.Order.{stringsUpTo}
 use Rattle.pauli.proofs.EarlierOrder.{stringsUpTo-listed}
@@ -15,6 +16,8 @@ use Rattle.code_record.specs.declared.Code.{Code}
 use Rattle.code_record.specs.Record.{generators}
 use Rattle.code_record.proofs.Limits.{limits}
 use Rattle.refusals.specs.declared.Refusal.{Refusal}
+use Rattle.sheet.specs.Statements.{Among}
+use Rattle.sheet.proofs.Numbers.{IfRefused, law-of-refusal}
 use Rattle.reduced_rows.specs.declared.ReducedRows.{ReducedRows}
 use Rattle.elimination.proofs.Passed.{fault-told, passed-within}
 use Rattle.letter_sums.specs.declared.Found.{Found}
@@ -25,7 +28,7 @@ use Rattle.logical_words.specs.Words.{logicalWords}
 use Rattle.logical_words.proofs.LogicalErrors.{logical-errors-are-found}
 use Rattle.refuting_pair.proofs.HalfMasks.{pair-of-string}
 use Rattle.distance.specs.Search.{refutedBy, distanceBy}
-use Rattle.distance.specs.Statements.{DistanceIsChecked}
+use Rattle.distance.specs.Statements.{DistanceIsChecked, DistanceRefusalNumbers}
 
 -- The call's answer, by what its search was given and answered.
 pub refuted-by : (at : ℕ) (c : Code) (rows : ReducedRows) (words : LetterWords) (v : ℕ) (found : Found)
@@ -56,3 +59,13 @@ distance-is-checked at c passed =
     ap (refutedBy at (c .n)) (logical-errors-are-found c passed .call (c .d - 1))
     ∙ refuted-as at (c .n) (logicalErrorUpTo c (c .d - 1))
     (λ s e. omega (arith, string-length c (c .d - 1) s e, room .qubits))
+
+found-lawful : (at n : ℕ) (found : Found) → IfRefused (Among (14 ∷ [])) (refutedBy at n found)
+unfolding anyOf
+found-lawful at n Found.Nothing = IfRefused.unrefused
+found-lawful at n (Found.At a b) = IfRefused.refused refl
+
+pub distance-refusal-numbers : DistanceRefusalNumbers
+unfolding distanceBy
+distance-refusal-numbers at c rows =
+    law-of-refusal (found-lawful at (c .n) (earliestBy (logicalWords c rows) (c .d - 1) 0 0))
