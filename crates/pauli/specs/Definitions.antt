@@ -14,6 +14,6 @@ use Rattle.pauli.specs.Order.{rank, letterWeight, weightOf, strings, str
 unfoldable pub definitions : Unit {0}
 unfolding onesAmong countOnes dot bits product negated inverse symplectic commutes anticommutes weight sameMasks modulo4
     hasPhase samePauli syndrome addBits maskOfBits syndromeMask lettersAt lettersOf letterOn maskOf xMask zMask countY
-    rowPhase rowOf signedRow ofLetters hasSign isSignedRow signOf letterText rowText rank letterWeight weightOf strings stringsUpTo flatMap
-    zipWith xor definitions-letters
+    rowPhase rowOf signedRow ofLetters hasSign isSignedRow signOf letterText rowText rank letterWeight weightOf strings
+    stringsUpTo flatMap zipWith xor definitions-letters
 definitions = tt

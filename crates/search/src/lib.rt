@@ -44,8 +44,8 @@ fn single(first: &[u32], second: &[u64], qubits: usize, want: u32, shun: u64) ->
     placed(qubits - place / 3 - 1, place % 3, place / 3, 0, 0)
 }
 
-// The earliest string of a weight on the last `qubits` qubits, a weight above 0. The fewer qubits are to the right of the first letter
-// that is not I, the earlier is the string.
+// The earliest string of a weight above 0 on the last `qubits` qubits. The fewer qubits are to the right of the first
+// letter that is not I, the earlier is the string.
 fn completion(
     first: &[u32],
     second: &[u64],
