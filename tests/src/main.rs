@@ -6,14 +6,20 @@
 //! for each: these two make crates/test_calls/stdin and crates/test_calls/stdout. `independent compare PROGRAM` runs
 //! the program on all cases and compares its answers.
 
+mod admission;
 mod answers;
 mod cases;
+mod classical;
+mod codes;
 mod compare;
 mod damage;
+mod faults;
 mod group;
 mod lists;
+mod logical_errors;
 mod parts;
 mod product;
+mod published;
 mod random;
 mod record;
 mod samples;

@@ -1,5 +1,6 @@
 //! The cases, part by part. The test program is run on all of them; a selection of each part is kept as files.
 
+mod admissions;
 mod groups;
 mod products;
 mod sheets;
@@ -8,6 +9,9 @@ use crate::cases::{Case, Kind};
 use crate::random::Random;
 use crate::record::{LAST_CHANGE, SAME_MODULO_4};
 use std::collections::HashSet;
+
+/// Whether the test program has the kinds of cases about admission.
+const WITH_ADMISSION: bool = false;
 
 /// Cases, and how many of them are kept.
 struct Part {
@@ -41,6 +45,9 @@ fn parts() -> Vec<Part> {
     let mut parts = products::parts();
     parts.extend(sheets::parts());
     parts.extend(groups::parts());
+    if WITH_ADMISSION {
+        parts.extend(admissions::parts());
+    }
     parts
 }
 
@@ -69,7 +76,7 @@ pub fn all() -> Vec<Case> {
 fn change(random: &mut Random, case: &Case) -> Option<usize> {
     match case.kind {
         Kind::Sheet if case.change == 0 => Some(1 + random.index(LAST_CHANGE)),
-        Kind::Group if case.change == 0 => Some(random.pick(&SAME_MODULO_4)),
+        Kind::Group | Kind::Checks if case.change == 0 => Some(random.pick(&SAME_MODULO_4)),
         _ => None,
     }
 }
@@ -108,7 +115,8 @@ mod tests {
         let input = lines(cases.iter().flat_map(Case::bytes));
         assert!(input + lines(answers.iter().copied()) < 10_000);
         let answers = String::from_utf8_lossy(&answers);
-        for number in [1, 2, 3, 4, 5, 6, 7, 8, 15, 17] {
+        let of_admission = if WITH_ADMISSION { 9..15 } else { 0..0 };
+        for number in (1..=8).chain(of_admission).chain([15, 17]) {
             assert!(answers.contains(&format!(" r={number} at=")), "{number}");
         }
         let changes: HashSet<usize> = cases.iter().map(|case| case.change).collect();

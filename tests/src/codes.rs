@@ -1,0 +1,178 @@
+//! Codes with their distance: generators that get logicals, and sheets that get d and w.
+
+use crate::lists;
+use crate::logical_errors::{self, for_each_product, Undetected};
+use crate::product::{commute, product};
+use crate::random::Random;
+use crate::record::Pauli;
+use crate::sheet::{weight, Letter, Row, Sheet};
+
+/// The longest distance that a sheet may claim.
+pub const MOST_DISTANCE: usize = 7;
+
+/// So many strings are tried before all products are gone through.
+const TRIES: usize = 20_000;
+
+/// So many qubits and pairs together, at most, where all products are gone through.
+const FEW: usize = 20;
+
+/// A sheet with these generators and with logicals made for them; d is 1, and w is the first X logical.
+pub fn completed(generators: Vec<Row>) -> Sheet {
+    let n = generators[0].letters.len();
+    let mut rest = undetected(n, &generators);
+    let (mut xs, mut zs) = (Vec::new(), Vec::new());
+    while let Some(x) = rest.pop() {
+        // what commutes with all the others is in the group
+        let Some(at) = rest.iter().position(|row| !commute(row, &x)) else {
+            continue;
+        };
+        let z = rest.remove(at);
+        for row in &mut rest {
+            let (with_x, with_z) = (commute(row, &x), commute(row, &z));
+            *row = if with_z { row.clone() } else { times(row, &x) };
+            *row = if with_x { row.clone() } else { times(row, &z) };
+        }
+        xs.push(x);
+        zs.push(z);
+    }
+    let claim = xs[0].letters.clone();
+    let d = 1;
+    Sheet {
+        n,
+        d,
+        generators,
+        xs,
+        zs,
+        claim,
+    }
+}
+
+/// Rows that generate, phases aside, all that commutes with the generators. One row goes for each generator.
+fn undetected(n: usize, generators: &[Row]) -> Vec<Row> {
+    let mut rows: Vec<Row> = (0..n)
+        .flat_map(|qubit| [Letter::X, Letter::Z].map(|letter| single(n, qubit, letter)))
+        .collect();
+    for generator in generators {
+        let detected = |row: &Row| !commute(row, generator);
+        let at = rows.iter().position(detected);
+        let one = rows.remove(at.expect("the generators are independent"));
+        for row in rows.iter_mut().filter(|row| detected(row)) {
+            *row = times(row, &one);
+        }
+    }
+    rows
+}
+
+pub fn single(n: usize, qubit: usize, letter: Letter) -> Row {
+    let mut letters = vec![Letter::I; n];
+    letters[qubit] = letter;
+    let minus = false;
+    Row { minus, letters }
+}
+
+/// The product with sign +.
+pub fn times(left: &Row, right: &Row) -> Row {
+    product(left.letters.len(), [left, right]).plus_row()
+}
+
+/// A code with r generators, whose rows have many letters or few.
+pub fn any_code(random: &mut Random, n: usize, r: usize) -> Sheet {
+    if random.below(4) == 0 {
+        lists::code(random, n, r)
+    } else {
+        lists::dense_code(random, n, r)
+    }
+}
+
+/// The sheet with its distance, and for w a logical error of that weight: the earliest, or any. None where the
+/// distance is more than a sheet may claim.
+pub fn with_distance(random: &mut Random, sheet: &Sheet) -> Option<Sheet> {
+    let earliest = logical_errors::earliest(sheet, MOST_DISTANCE)?;
+    let d = weight(&earliest);
+    let claim = match random.below(3) {
+        0 => earliest,
+        _ => of_weight(random, sheet, d).unwrap_or(earliest),
+    };
+    Some(claiming(sheet, claim))
+}
+
+/// The sheet with this string for w, and its weight for d.
+pub fn claiming(sheet: &Sheet, claim: Vec<Letter>) -> Sheet {
+    let d = weight(&claim);
+    Sheet {
+        d,
+        claim,
+        ..sheet.clone()
+    }
+}
+
+/// A logical error of this weight, where one is found.
+pub fn of_weight(random: &mut Random, sheet: &Sheet, v: usize) -> Option<Vec<Letter>> {
+    if v > sheet.n {
+        return None;
+    }
+    let code = Undetected::of(&sheet.generators);
+    let tried = (0..TRIES).map(|_| string_of_weight(random, sheet.n, v));
+    let found = { tried }.find(|letters| code.has_logical(letters));
+    found.or_else(|| last_product(sheet, v))
+}
+
+pub fn string_of_weight(random: &mut Random, n: usize, v: usize) -> Vec<Letter> {
+    let mut letters = vec![Letter::I; n];
+    let mut ahead = v;
+    while ahead > 0 {
+        let qubit = random.index(n);
+        if letters[qubit] == Letter::I {
+            letters[qubit] = random.pick(&Letter::ALL[1..]);
+            ahead -= 1;
+        }
+    }
+    letters
+}
+
+fn last_product(sheet: &Sheet, v: usize) -> Option<Vec<Letter>> {
+    let mut found = None;
+    if sheet.n + sheet.xs.len() <= FEW {
+        for_each_product(sheet, |a, b| {
+            if (a | b).count_ones() as usize == v {
+                found = Some(Pauli { p: 0, a, b });
+            }
+        });
+    }
+    found.map(|pauli| pauli.letters(sheet.n))
+}
+
+#[cfg(test)]
+mod tests {
+    use super::*;
+    use crate::admission::check;
+    use crate::group;
+
+    #[test]
+    fn logicals_are_made_for_any_generators() {
+        let mut random = Random(21);
+        for n in 2..=24 {
+            let r = 1 + random.index(n - 1);
+            let generators = any_code(&mut random, n, r).generators;
+            let sheet = completed(generators);
+            assert_eq!((sheet.xs.len(), sheet.zs.len()), (n - r, n - r));
+            let sheet = with_distance(&mut random, &sheet).unwrap();
+            assert_eq!(check(&sheet, 0), Ok(()), "{n} {r}");
+        }
+    }
+
+    #[test]
+    fn a_logical_error_has_the_weight_that_was_asked_for() {
+        let mut random = Random(22);
+        for n in [5, 9, 12] {
+            let sheet = any_code(&mut random, n, n - 2);
+            for v in 1..=n {
+                let Some(letters) = of_weight(&mut random, &sheet, v) else {
+                    continue;
+                };
+                assert_eq!(weight(&letters), v);
+                assert_eq!(group::member(&sheet.generators, &letters), None);
+            }
+        }
+    }
+}
