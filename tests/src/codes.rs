@@ -2,7 +2,7 @@
 
 use crate::lists;
 use crate::logical_errors::{self, for_each_product, Undetected};
-use crate::product::{commute, product};
+use crate::product::{commute, commuting_product, product};
 use crate::random::Random;
 use crate::record::Pauli;
 use crate::sheet::{weight, Letter, Row, Sheet};
@@ -84,6 +84,57 @@ pub fn any_code(random: &mut Random, n: usize, r: usize) -> Sheet {
     }
 }
 
+/// The code in other clothes: its qubits in another order, X, Y and Z in other roles on each of them, any signs, and
+/// products for generators. Its distance and the weights of its group's members stay.
+pub fn disguised(random: &mut Random, sheet: &Sheet) -> Sheet {
+    let order = shuffled(random, (0..sheet.n).collect());
+    let roles: Vec<Vec<Letter>> = (0..sheet.n)
+        .map(|_| shuffled(random, Letter::ALL[1..].to_vec()))
+        .collect();
+    let letters = |letters: &[Letter]| -> Vec<Letter> {
+        let moved = order.iter().map(|&from| letters[from]).zip(&roles);
+        moved
+            .map(|(letter, roles)| in_role(letter, roles))
+            .collect()
+    };
+    let mut rows = |rows: &[Row]| -> Vec<Row> {
+        let row = |row: &Row| Row {
+            minus: random.below(2) == 0,
+            letters: letters(&row.letters),
+        };
+        rows.iter().map(row).collect()
+    };
+    let (xs, zs) = (rows(&sheet.xs), rows(&sheet.zs));
+    let mut generators = rows(&sheet.generators);
+    for i in 1..generators.len() {
+        let other = random.index(i);
+        if random.below(2) == 0 {
+            generators[i] = commuting_product(&generators[i], &generators[other]);
+        }
+    }
+    Sheet {
+        n: sheet.n,
+        d: sheet.d,
+        generators,
+        xs,
+        zs,
+        claim: letters(&sheet.claim),
+    }
+}
+
+fn shuffled<T>(random: &mut Random, mut list: Vec<T>) -> Vec<T> {
+    for i in 1..list.len() {
+        list.swap(i, random.index(i + 1));
+    }
+    list
+}
+
+/// The letter in whose place this one stands; I stays.
+fn in_role(letter: Letter, roles: &[Letter]) -> Letter {
+    let role = Letter::ALL[1..].iter().position(|&l| l == letter);
+    role.map_or(Letter::I, |role| roles[role])
+}
+
 /// The sheet with its distance, and for w a logical error of that weight: the earliest, or any. None where the
 /// distance is more than a sheet may claim.
 pub fn with_distance(random: &mut Random, sheet: &Sheet) -> Option<Sheet> {
@@ -104,6 +155,17 @@ pub fn claiming(sheet: &Sheet, claim: Vec<Letter>) -> Sheet {
         claim,
         ..sheet.clone()
     }
+}
+
+/// The sheet with its distance, and with each longer one for which a logical error is found.
+pub fn with_longer_distances(random: &mut Random, sheet: &Sheet) -> Vec<Sheet> {
+    let Some(sheet) = with_distance(random, sheet) else {
+        return Vec::new();
+    };
+    let heavier = sheet.d + 1..=MOST_DISTANCE;
+    let claims = heavier.filter_map(|v| of_weight(random, &sheet, v));
+    let longer: Vec<Sheet> = claims.map(|claim| claiming(&sheet, claim)).collect();
+    [vec![sheet], longer].concat()
 }
 
 /// A logical error of this weight, where one is found.
@@ -158,6 +220,18 @@ mod tests {
             assert_eq!((sheet.xs.len(), sheet.zs.len()), (n - r, n - r));
             let sheet = with_distance(&mut random, &sheet).unwrap();
             assert_eq!(check(&sheet, 0), Ok(()), "{n} {r}");
+        }
+    }
+
+    #[test]
+    fn a_code_in_other_clothes_has_the_same_distance() {
+        let mut random = Random(23);
+        for n in 2..=12 {
+            let sheet = any_code(&mut random, n, n / 2);
+            let sheet = with_distance(&mut random, &sheet).unwrap();
+            let other = disguised(&mut random, &sheet);
+            assert_ne!(other, sheet);
+            assert_eq!(check(&other, 0), Ok(()));
         }
     }
 

@@ -2,6 +2,7 @@
 //! already may get another, which can also take the first away: what the answer is, the checks say.
 
 use crate::codes::{claiming, of_weight, single, string_of_weight, times, MOST_DISTANCE};
+use crate::group;
 use crate::product::{commute, product};
 use crate::random::Random;
 use crate::sheet::{weight, Letter, Row, Sheet};
@@ -212,8 +213,11 @@ fn claim_in_group(random: &mut Random, sheet: &Sheet) -> Option<Sheet> {
     Some(claiming(sheet, found?))
 }
 
-/// A logical error that is heavier than w, with its weight for d.
+/// A logical error that is heavier than w, with its weight for d. Generators that clash have no group to be outside of.
 fn claim_heavier(random: &mut Random, sheet: &Sheet) -> Option<Sheet> {
+    if group::check(&sheet.generators).is_err_and(|refusal| refusal.number == 6) {
+        return None;
+    }
     let mut weights = sheet.d + 1..=MOST_DISTANCE;
     let found = weights.find_map(|v| of_weight(random, sheet, v));
     Some(claiming(sheet, found?))

@@ -2,7 +2,7 @@
 
 use super::{each_change, unchanged, Part};
 use crate::cases::{Case, Kind};
-use crate::codes::{any_code, completed, with_distance};
+use crate::codes::{any_code, completed, disguised, with_distance, with_longer_distances};
 use crate::faults::FAULTS;
 use crate::random::Random;
 use crate::samples::{self, A, CLASH, EIGHT, FOUR, I, K, NINE};
@@ -28,6 +28,7 @@ pub fn parts() -> Vec<Part> {
     let published = published_codes(&mut random);
     let generated = generated(&mut random);
     let with_two_faults = with_two_faults(&mut random);
+    let distances = distances(&mut random);
     vec![
         Part::kept(sheets(samples::starred())),
         Part::kept(sheets(of_each_number())),
@@ -39,6 +40,7 @@ pub fn parts() -> Vec<Part> {
         Part::sampled(0, sheets(published.clone())),
         Part::sampled(0, sheets(generated.clone())),
         Part::sampled(0, sheets(with_two_faults.clone())),
+        Part::sampled(0, sheets(distances)),
         Part::sampled(0, sheets(any_rows(&mut random))),
         Part::sampled(0, sheets(cut())),
         Part::sampled(0, sheets(damaged(&mut random, &generated))),
@@ -139,6 +141,22 @@ fn faulty(random: &mut Random, sheet: &Sheet) -> Vec<Sheet> {
         .collect();
     sheets.insert(0, sheet.clone());
     sheets
+}
+
+/// Codes of every size, and published codes in other clothes: each with its distance and with longer ones, which are
+/// refuted.
+fn distances(random: &mut Random) -> Texts {
+    let mut codes = Vec::new();
+    for n in 2..=24 {
+        codes.extend((1..n).map(|r| any_code(random, n, r)));
+    }
+    for sheet in published::all() {
+        codes.extend([(); 3].map(|()| disguised(random, &sheet)));
+    }
+    let sheets = codes
+        .iter()
+        .flat_map(|code| with_longer_distances(random, code));
+    sheets.map(|sheet| sheet.text()).collect()
 }
 
 /// Each fault behind each other, in codes with two generators and two pairs at least.
