@@ -14,7 +14,7 @@ pub type Fault = fn(&mut Random, &Sheet) -> Option<Sheet>;
 const TRIES: usize = 200;
 
 /// The number of the check that meets each of them in a sheet that is admitted.
-pub const FAULTS: [(u32, Fault); 17] = [
+pub const FAULTS: [(u32, Fault); 18] = [
     (6, generators_clash),
     (7, minus_a_product),
     (8, a_product),
@@ -30,6 +30,7 @@ pub const FAULTS: [(u32, Fault); 17] = [
     (11, distance_one_less),
     (11, claim_one_lighter),
     (12, claim_detected),
+    (12, distance_and_claim_one_less),
     (13, claim_in_group),
     (14, claim_heavier),
 ];
@@ -174,6 +175,12 @@ fn claim_one_lighter(random: &mut Random, sheet: &Sheet) -> Option<Sheet> {
     }
     sheet.claim[random.pick(&struck)] = Letter::I;
     Some(sheet)
+}
+
+/// A lightest logical error with a letter less is detected.
+fn distance_and_claim_one_less(random: &mut Random, sheet: &Sheet) -> Option<Sheet> {
+    let shorter = distance_one_less(random, sheet)?;
+    claim_one_lighter(random, &shorter)
 }
 
 /// Any string of weight d, or w with another letter on one qubit.

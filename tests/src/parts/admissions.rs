@@ -260,4 +260,11 @@ mod tests {
         }
         assert_eq!(answers.matches("admitted").count(), 5);
     }
+
+    #[test]
+    fn every_part_has_cases() {
+        let counts: Vec<usize> = parts().iter().map(|part| part.cases.len()).collect();
+        assert!(counts.iter().all(|&count| count > 0), "{counts:?}");
+        assert!(counts.iter().sum::<usize>() > 10_000, "{counts:?}");
+    }
 }
