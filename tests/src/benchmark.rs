@@ -169,6 +169,10 @@ mod tests {
     #[test]
     fn a_walk_finds_the_earliest_string() {
         let words = Words::made(SEED);
+        assert_eq!(
+            (words.first[0], words.first[71]),
+            (723_471_715, 3_063_775_443)
+        );
         // YIX on the last three qubits: the sum of its words has no earlier string
         let want = words.first[7] ^ words.first[0];
         let (a, b) = (0b101 << 21, 0b001 << 21);

@@ -159,13 +159,35 @@ pub fn claiming(sheet: &Sheet, claim: Vec<Letter>) -> Sheet {
 
 /// The sheet with its distance, and with each longer one for which a logical error is found.
 pub fn with_longer_distances(random: &mut Random, sheet: &Sheet) -> Vec<Sheet> {
-    let Some(sheet) = with_distance(random, sheet) else {
+    let claims = match sheet.n + sheet.xs.len() <= FEW {
+        true => of_each_weight(sheet),
+        false => earliest_and_heavier(random, sheet),
+    };
+    let claims = claims.into_iter();
+    claims.map(|claim| claiming(sheet, claim)).collect()
+}
+
+fn earliest_and_heavier(random: &mut Random, sheet: &Sheet) -> Vec<Vec<Letter>> {
+    let Some(earliest) = logical_errors::earliest(sheet, MOST_DISTANCE) else {
         return Vec::new();
     };
-    let heavier = sheet.d + 1..=MOST_DISTANCE;
-    let claims = heavier.filter_map(|v| of_weight(random, &sheet, v));
-    let longer: Vec<Sheet> = claims.map(|claim| claiming(&sheet, claim)).collect();
-    [vec![sheet], longer].concat()
+    let heavier = weight(&earliest) + 1..=MOST_DISTANCE;
+    let mut claims = vec![earliest];
+    claims.extend(heavier.filter_map(|v| of_weight(random, sheet, v)));
+    claims
+}
+
+/// A logical error of each weight that a sheet may claim, the lightest first. All products are gone through.
+pub fn of_each_weight(sheet: &Sheet) -> Vec<Vec<Letter>> {
+    let mut found = [None; MOST_DISTANCE + 1];
+    for_each_product(sheet, |a, b| {
+        let weight = (a | b).count_ones() as usize;
+        if weight <= MOST_DISTANCE {
+            found[weight] = Some(Pauli { p: 0, a, b });
+        }
+    });
+    let found = found.into_iter().flatten();
+    found.map(|pauli| pauli.letters(sheet.n)).collect()
 }
 
 /// A logical error of this weight, where one is found.
@@ -176,7 +198,10 @@ pub fn of_weight(random: &mut Random, sheet: &Sheet, v: usize) -> Option<Vec<Let
     let code = Undetected::of(&sheet.generators);
     let tried = (0..TRIES).map(|_| string_of_weight(random, sheet.n, v));
     let found = { tried }.find(|letters| code.has_logical(letters));
-    found.or_else(|| last_product(sheet, v))
+    found.or_else(|| match sheet.n + sheet.xs.len() <= FEW {
+        true => { of_each_weight(sheet).into_iter() }.find(|letters| weight(letters) == v),
+        false => None,
+    })
 }
 
 pub fn string_of_weight(random: &mut Random, n: usize, v: usize) -> Vec<Letter> {
@@ -190,18 +215,6 @@ pub fn string_of_weight(random: &mut Random, n: usize, v: usize) -> Vec<Letter> 
         }
     }
     letters
-}
-
-fn last_product(sheet: &Sheet, v: usize) -> Option<Vec<Letter>> {
-    let mut found = None;
-    if sheet.n + sheet.xs.len() <= FEW {
-        for_each_product(sheet, |a, b| {
-            if (a | b).count_ones() as usize == v {
-                found = Some(Pauli { p: 0, a, b });
-            }
-        });
-    }
-    found.map(|pauli| pauli.letters(sheet.n))
 }
 
 #[cfg(test)]

@@ -23,7 +23,7 @@ pub fn code(random: &mut Random, n: usize, r: usize) -> Sheet {
 /// The same, turned about rows with any letters, so that the rows have many letters other than I.
 pub fn dense_code(random: &mut Random, n: usize, r: usize) -> Sheet {
     let mut rows = all_rows(random, n, r);
-    for _ in 0..3 + random.index(n) {
+    for _ in 0..2 * n + random.index(n) {
         let about = any_row(random, n);
         rows = rows.iter().map(|row| turned(row, &about)).collect();
     }

@@ -2,12 +2,13 @@
 
 use super::{each_change, unchanged, Part};
 use crate::cases::{Case, Kind};
-use crate::codes::{any_code, completed, disguised, with_distance, with_longer_distances};
+use crate::codes::{any_code, claiming, completed, disguised};
+use crate::codes::{of_each_weight, with_distance, with_longer_distances};
 use crate::faults::FAULTS;
 use crate::random::Random;
 use crate::samples::{self, A, CLASH, EIGHT, FOUR, I, K, NINE};
 use crate::sheet::Sheet;
-use crate::{damage, published};
+use crate::{damage, lists, published};
 
 type Texts = Vec<Vec<u8>>;
 
@@ -41,6 +42,7 @@ pub fn parts() -> Vec<Part> {
         Part::sampled(0, sheets(generated.clone())),
         Part::sampled(0, sheets(with_two_faults.clone())),
         Part::sampled(0, sheets(distances)),
+        Part::sampled(0, sheets(long_distances(&mut random))),
         Part::sampled(0, sheets(any_rows(&mut random))),
         Part::sampled(0, sheets(cut())),
         Part::sampled(0, sheets(damaged(&mut random, &generated))),
@@ -143,12 +145,16 @@ fn faulty(random: &mut Random, sheet: &Sheet) -> Vec<Sheet> {
     sheets
 }
 
-/// Codes of every size, and published codes in other clothes: each with its distance and with longer ones, which are
-/// refuted.
+/// Codes of every size, more of those with few pairs, whose distances are longer, and published codes in other clothes:
+/// each with its distance and with longer ones, which are refuted.
 fn distances(random: &mut Random) -> Texts {
     let mut codes = Vec::new();
     for n in 2..=24 {
         codes.extend((1..n).map(|r| any_code(random, n, r)));
+    }
+    for n in (7..=16).flat_map(|n| [n; 8]) {
+        let r = n - 1 - random.index(2);
+        codes.push(lists::dense_code(random, n, r));
     }
     for sheet in published::all() {
         codes.extend([(); 3].map(|()| disguised(random, &sheet)));
@@ -157,6 +163,16 @@ fn distances(random: &mut Random) -> Texts {
         .iter()
         .flat_map(|code| with_longer_distances(random, code));
     sheets.map(|sheet| sheet.text()).collect()
+}
+
+/// Codes of one pair and many qubits, which have the longest distances.
+fn long_distances(random: &mut Random) -> Texts {
+    let codes = [22, 23, 23, 24, 24, 24].map(|n| lists::dense_code(random, n, n - 1));
+    let claiming_each = |code: &Sheet| -> Texts {
+        let claims = of_each_weight(code).into_iter();
+        claims.map(|claim| claiming(code, claim).text()).collect()
+    };
+    codes.iter().flat_map(claiming_each).collect()
 }
 
 /// Each fault behind each other, in codes with two generators and two pairs at least.
