@@ -7,7 +7,7 @@ use crate::codes::{of_each_weight, with_distance, with_longer_distances};
 use crate::faults::FAULTS;
 use crate::random::Random;
 use crate::samples::{self, A, CLASH, EIGHT, FOUR, I, K, NINE};
-use crate::sheet::Sheet;
+use crate::sheet::{self, Sheet};
 use crate::{damage, lists, published};
 
 type Texts = Vec<Vec<u8>>;
@@ -46,6 +46,7 @@ pub fn parts() -> Vec<Part> {
         Part::sampled(0, sheets(any_rows(&mut random))),
         Part::sampled(0, sheets(cut())),
         Part::sampled(0, sheets(damaged(&mut random, &generated))),
+        Part::sampled(0, sheets(misnumbered(&generated))),
         Part::sampled(0, sheets(long())),
         Part::sampled(0, records(samples::starred())),
         Part::sampled(0, records(published)),
@@ -231,6 +232,32 @@ fn damaged(random: &mut Random, generated: &[Vec<u8>]) -> Texts {
         texts.extend(damage::lines_swapped(text));
         texts.extend(damage::lines_doubled(text));
         texts.extend(damage::lines_dropped(text));
+    }
+    texts
+}
+
+/// Sheets with another number of qubits or another distance.
+fn misnumbered(generated: &[Vec<u8>]) -> Texts {
+    const LINES: [(&str, &str); 8] = [
+        ("n=", "1"),
+        ("n=", "25"),
+        ("n=", "2"),
+        ("n=", "012"),
+        ("d=", "8"),
+        ("d=", "9"),
+        ("d=", "0"),
+        ("d=", "7"),
+    ];
+    let mut texts = Texts::new();
+    for text in generated.iter().step_by(25) {
+        for (key, number) in LINES {
+            let renumbered = |line: &[u8]| match line.starts_with(key.as_bytes()) {
+                true => sheet::line(key, number.as_bytes()),
+                false => line.to_vec(),
+            };
+            let lines = text.split_inclusive(|&byte| byte == b'\n');
+            texts.push(lines.flat_map(renumbered).collect());
+        }
     }
     texts
 }
