@@ -2,12 +2,12 @@
 //! time is no test, and nothing fails where it is long.
 //!
 //! Each of the letters X, Y, Z at each qubit has two words. A walk goes through the strings from the earliest on and
-//! looks for one whose first words sum to a wanted word and whose second words do not sum to one that is shunned. The
-//! words are chosen so that no walk finds anything: each goes to its end.
+//! looks for one whose first words sum to a wanted word and whose second words do not sum to 0. The words are chosen so
+//! that no walk finds anything: each goes to its end.
 //!
 //! The program makes the same words (see `Words::made`) and reads one byte. With `d` it makes the walks of a distance,
-//! with `c` those of corrections, and with no byte or any other none. The wanted words are 1, 2 and so on, one for each
-//! walk, and the shunned word is 1. It prints how many walks found something, and a line feed.
+//! with `c` those of corrections, and with no byte or any other none. The wanted words are 0, 1, 2 and so on, one for
+//! each walk. It prints how many walks found something, and a line feed.
 
 use std::hint::black_box;
 use std::io::Write;
@@ -54,7 +54,7 @@ struct Words {
 }
 
 impl Words {
-    /// Marsaglia's xorshift with 13, 17 and 5 gives the first words, one after the other. The second words are 0.
+    /// Marsaglia's xorshift with 13, 17 and 5, one word after the other. The second words are the first.
     fn made(seed: u32) -> Words {
         let mut word = seed;
         let mut next = || {
@@ -63,21 +63,18 @@ impl Words {
             word ^= word << 5;
             word
         };
-        let first = (0..3 * QUBITS).map(|_| next()).collect();
-        let second = vec![0; 3 * QUBITS];
+        let first: Vec<u32> = (0..3 * QUBITS).map(|_| next()).collect();
+        let second = first.iter().map(|&word| u64::from(word)).collect();
         Words { first, second }
     }
 }
-
-/// No second words sum to it.
-const SHUNNED: u64 = 1;
 
 /// The masks of a string.
 type Masks = (u32, u32);
 
 /// The earliest string of at most this weight.
 fn earliest(words: &Words, most: usize, want: u32) -> Option<Masks> {
-    (0..=most).find_map(|weight| of_weight(&words.first, &words.second, weight, want, SHUNNED))
+    (0..=most).find_map(|weight| of_weight(&words.first, &words.second, weight, want, 0))
 }
 
 /// The earliest string of a weight on the last qubits, those that have words.
@@ -132,7 +129,7 @@ pub fn benchmark(program: Option<&Path>) {
 
 fn timed_here(words: &Words, walks: &Walks) -> Duration {
     let start = Instant::now();
-    let found = (1..=walks.count).filter(|&want| {
+    let found = (0..walks.count).filter(|&want| {
         let found = earliest(black_box(words), black_box(walks.most), black_box(want));
         black_box(found).is_some()
     });
@@ -169,10 +166,8 @@ mod tests {
     #[test]
     fn a_walk_finds_the_earliest_string() {
         let words = Words::made(SEED);
-        assert_eq!(
-            (words.first[0], words.first[71]),
-            (723_471_715, 3_063_775_443)
-        );
+        let ends = (words.first[0], words.first[71]);
+        assert_eq!(ends, (723_471_715, 3_063_775_443));
         // YIX on the last three qubits: the sum of its words has no earlier string
         let want = words.first[7] ^ words.first[0];
         let (a, b) = (0b101 << 21, 0b001 << 21);
@@ -185,7 +180,7 @@ mod tests {
     fn the_walks_find_nothing() {
         let words = Words::made(SEED);
         for walks in WALKS {
-            for want in 1..=walks.count {
+            for want in 0..walks.count {
                 assert_eq!(earliest(&words, walks.most, want), None, "{want}");
             }
         }
