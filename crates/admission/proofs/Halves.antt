@@ -66,7 +66,7 @@ xor-right x m k h =
     xor-comm (0 + 2 * m) (x + 2 * k) ∙ xor-left x k m h ∙ ap₂ (λ u v. u + 2 * v) refl (xor-comm k m)
 
 module _ (bit : Letter → ℕ) (small : (l : Letter) → bit l < 2) (none : bit I ≡ 0) where
-  dealt-masks : {s e f : List Letter} → Dealt s e f → bitXor (maskOf bit e) (maskOf bit f) ≡ maskOf bit s
+  pub dealt-masks : {s e f : List Letter} → Dealt s e f → bitXor (maskOf bit e) (maskOf bit f) ≡ maskOf bit s
   unfolding maskOf
   dealt-masks ended = refl
   dealt-masks (left {l} d) = rw (none, xor-left, small l, dealt-masks d)

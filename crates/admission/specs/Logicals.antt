@@ -19,8 +19,12 @@ use Rattle.stabilizer.specs.Checks.{firstFault}
 unfoldable pub logicals : Code → List Pauli
 logicals c = logicalXs c ++ logicalZs c
 
+-- The family of the logical at a place, which counts from 0, among k pairs.
+unfoldable pub familyAt : ℕ → ℕ → Family
+familyAt k place = cond (ltb place k) Family.LogicalX Family.LogicalZ
+
 unfoldable pub familyAfter : ℕ → List Pauli → Family
-familyAfter k before = cond (ltb (length before) k) Family.LogicalX Family.LogicalZ
+familyAfter k before = familyAt k (length before)
 
 -- RULES, "Admission": 9 where a logical anticommutes with a generator.
 unfoldable pub detected : Code → List Pauli → ℕ → Pauli → Option Refusal

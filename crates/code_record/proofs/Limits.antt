@@ -1,9 +1,10 @@
 -- What the limits of a record say: the test of each limit, taken from the one test that joins them, as a fact on the
 -- record's numbers and rows.
-use mathlib.Core.Path.{_≡_, refl, sym, _∙_}
-use mathlib.Core.Bool.{Bool, true, false, _&&_, _||_, and-eq-true-iff, and-false, false≢true}
+use mathlib.Core.Path.{_≡_, refl, ap, sym, _∙_}
+use mathlib.Core.Bool.{Bool, true, false, not, _&&_, _||_, and-eq-true-iff, and-false, false≢true}
 use mathlib.Core.List.{List, _∷_}
 use mathlib.Core.Logic.{_⊎_, inl, inr}
+use mathlib.Core.Option.{Option, some}
 use Prim.Native.Nat.{ℕ, _^_, _≤_, _<_}
 use native.Mathlib.Omega.{arith}
 use borrow.Author.Tests.{le-leb, lt-leb, leb-true, ltb-true}
@@ -12,9 +13,11 @@ use lib.ListN.{take, drop}
 use Rattle.pauli.specs.declared.Pauli.{Pauli}
 use Rattle.letters.specs.Lists.{allOf}
 use Rattle.pauli.specs.Product.{identity, samePauli}
+use Rattle.refusals.specs.declared.Refusal.{Refusal}
+use Rattle.refusals.specs.Refusals.{refuseIf, _then_}
 use Rattle.code_record.specs.declared.Code.{Code}
 use Rattle.code_record.specs.Record.{mostQubits, mostDistance, mostGenerators, logicalCount}
-use Rattle.code_record.specs.Record.{between, onQubits, isRow, isClaim, areRows, withinLimits}
+use Rattle.code_record.specs.Record.{between, onQubits, isRow, isClaim, areRows, withinLimits, limitsFault}
 
 -- ---- tests
 
@@ -119,3 +122,13 @@ limits c h =
       zRows = row-array _ _ _ (t .zRows);
       claim = t .claim;
     }
+
+-- 15 comes before other checks: it answers outside the limits, and they do within them.
+module _ (c : Code) (later : Option Refusal) where
+  pub outside-first : withinLimits c ≡ false → some Refusal.RecordLimits ≡ (limitsFault c then later)
+  unfolding limitsFault refuseIf _then_
+  outside-first outside = ap (λ t. refuseIf (not t) Refusal.RecordLimits then later) (sym outside)
+
+  pub within-later : withinLimits c ≡ true → later ≡ (limitsFault c then later)
+  unfolding limitsFault refuseIf _then_
+  within-later within = ap (λ t. refuseIf (not t) Refusal.RecordLimits then later) (sym within)

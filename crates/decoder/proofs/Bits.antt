@@ -1,16 +1,16 @@
 -- A syndrome has as many bits as there are generators, its characters are read as those bits, and what is read as
 -- bits is their characters. Each goes row by row or character by character.
 use mathlib.Core.Bool.{Bool, true, false, cond}
-use mathlib.Core.List.{List, [], _∷_, map}
+use mathlib.Core.List.{List, map}
 use mathlib.Core.Option.{none, some}
 use mathlib.Core.Path.{_≡_, refl, ap, sym, _∙_}
 use Prim.Native.Nat.{ℕ}
-use native.Mathlib.Omega.{arith}
 use borrow.Author.Tests.{eq-eqb}
 use lib.ListN.{length, length-map}
 use Rattle.pauli.specs.declared.Pauli.{Pauli}
 use Rattle.letters.specs.Lists.{firstOf, readByte}
 use Rattle.pauli.specs.Syndrome.{syndrome}
+use Rattle.pauli.proofs.SyndromeMask.{length-syndrome}
 use Rattle.code_record.specs.declared.Code.{Code}
 use Rattle.code_record.specs.Record.{generators, withinLimits, Sized}
 use Rattle.code_record.proofs.Limits.{limits}
@@ -22,11 +22,6 @@ use Rattle.decoder.specs.Statements.{SyndromesHaveRBits}
 use Rattle.decoder.specs.Syndrome.{bitByte, readBit, syndromeText, readSyndrome}
 
 -- ---- how many bits
-
-length-syndrome : (rows : List Pauli) (P : Pauli) → length (syndrome rows P) ≡ length rows
-unfolding syndrome
-length-syndrome [] P = refl
-length-syndrome (g ∷ rows) P = omega (arith, length-syndrome rows P)
 
 of-record : (c : Code) (P : Pauli) → Sized c → withinLimits c ≡ true → length (syndrome (generators c) P) ≡ c .r
 of-record c P sized within = length-syndrome (generators c) P ∙ length-generators c sized (limits c within)

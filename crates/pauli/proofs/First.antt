@@ -6,7 +6,7 @@ use mathlib.Core.List.{List, [], _∷_, List·Mem, Pairwise, rel-of-pairwise-con
 use mathlib.Core.List.{mem-cast, mem-cons-self, mem-cons-of-mem, mem-of-ne-of-mem, not-mem-nil, mem-filter}
 use mathlib.Core.Logic.{inl, inr, by-cases, Iff·trans, Iff·and, Iff·rfl}
 use mathlib.Core.Option.{Option, none, some, Option·some-injective, Option·none-ne-some, Option·some-ne-none}
-use mathlib.Core.Path.{_≡_, refl, ap, sym, _∙_}
+use mathlib.Core.Path.{_≡_, refl, ap, ap₂, sym, _∙_}
 use Rattle.letters.specs.declared.Letter.{Letter}
 use Rattle.letters.specs.Lists.{firstOf, passing}
 use Rattle.pauli.specs.Statements.{StringOrder, Listed, FirstBy, ListsAreSearched}
@@ -52,6 +52,15 @@ module _ (test : List Letter → Bool) where
       go true p rest f = Option·some-ne-none x f
       go false p rest f = rest f (mem-of-ne-of-mem (λ q. true≢false (sym passes ∙ ap test q ∙ p)) m)
 
+-- Two tests that agree on the list find the same.
+same-along : (test other : List Letter → Bool) (xs : List (List Letter))
+    → ((s : List Letter) → List·Mem s xs → test s ≡ other s) → firstOf test xs ≡ firstOf other xs
+unfolding firstOf
+same-along test other [] same = refl
+same-along test other (x ∷ xs) same =
+    ap₂ (λ (t : Bool) (rest : Option (List Letter)). elim t [ true ↦ some x | false ↦ rest ]) (same x mem-cons-self)
+    (same-along test other xs (λ s m. same s (mem-cons-of-mem x m)))
+
 -- ---- in a list in order
 
 module _
@@ -76,6 +85,13 @@ module _
     once = Pairwise·filter _ (listed .once);
     increasing = Pairwise·filter _ (listed .increasing);
   }
+
+pub same-search : {Before : StringOrder} {Condition : List Letter → Type 0} (test other : List Letter → Bool)
+    (list : List (List Letter))
+    → Listed Before Condition list → ((s : List Letter) → Condition s → test s ≡ other s)
+    → firstOf test list ≡ firstOf other list
+same-search test other list listed same =
+    same-along test other list (λ s m. same s (listed .exactly s .0 m))
 
 pub lists-are-searched : ListsAreSearched
 lists-are-searched Before Condition list listed = record {

@@ -2,6 +2,8 @@ pub mod Modulo
 pub mod Masks
 pub mod Product
 pub mod Syndrome
+pub mod SyndromeMask
+pub mod Undetected
 pub mod Letters
 pub mod Rows
 pub mod EarlierOrder

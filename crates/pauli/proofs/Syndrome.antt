@@ -19,7 +19,7 @@ syndrome-product (g ∷ rows) P Q = ap₂ _∷_ (anticommutes-product g P Q) (sy
 
 -- ---- one syndrome
 
-commutes-comm : (P Q : Pauli) → commutes P Q ≡ commutes Q P
+pub commutes-comm : (P Q : Pauli) → commutes P Q ≡ commutes Q P
 unfolding commutes
 commutes-comm P Q = ap (λ x. eqb x 0) (symplectic-comm P Q)
 

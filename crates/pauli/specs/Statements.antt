@@ -1,10 +1,11 @@
--- What is stated of letters, masks and the order.
+-- What is stated of letters, masks, syndromes and the order.
 use mathlib.Core.Bool.{Bool, true}
 use mathlib.Core.List.{List, List·Mem, List·Nodup, Pairwise}
 use mathlib.Core.Logic.{_⊎_, _↔_}
 use mathlib.Core.Option.{none, some}
 use mathlib.Core.Path.{_≡_}
 use Prim.Native.Nat.{ℕ, _^_, _≤_, _<_}
+use lib.Bits.{bitXor}
 use lib.ListN.{length}
 use Rattle.pauli.specs.declared.Pauli.{Pauli}
 use Rattle.letters.specs.declared.Letter.{Letter}
@@ -12,7 +13,8 @@ use Rattle.letters.specs.declared.Sign.{Sign}
 use Rattle.pauli.specs.Letters.{signedRow, ofLetters, lettersOf, xMask, zMask}
 use Rattle.letters.specs.Lists.{firstOf, passing}
 use Rattle.pauli.specs.Order.{weightOf, Earlier, strings, stringsUpTo}
-use Rattle.pauli.specs.Product.{weight}
+use Rattle.pauli.specs.Product.{product, weight}
+use Rattle.pauli.specs.Syndrome.{syndromeMask}
 
 -- ---- letters and masks
 
@@ -28,6 +30,14 @@ MasksReturn =
 -- A Pauli's weight, from its masks, is that of its letters.
 abbrev pub WeightCountsLetters : Type 0
 WeightCountsLetters = (s : List Letter) → weight (ofLetters s) ≡ weightOf s
+
+-- ---- syndromes
+
+-- The syndrome of a product, as a mask, is the sum of the two syndromes, bit by bit, whatever the rows.
+abbrev pub SyndromeMaskIsAdditive : Type 0
+SyndromeMaskIsAdditive =
+    (rows : List Pauli) (P Q : Pauli)
+    → syndromeMask rows (product P Q) ≡ bitXor (syndromeMask rows P) (syndromeMask rows Q)
 
 -- ---- the order
 

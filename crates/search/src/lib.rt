@@ -1,19 +1,139 @@
-// The search for the earliest string of letters whose words sum to a wanted one. It knows nothing of codes.
+// The search for the earliest string of letters whose first words sum to a wanted one and whose second words do not
+// sum to a shunned one, bit by bit. It knows nothing of codes: with syndromes as first words it finds a correction, and
+// with what is left of a letter by the group's rows as second words it finds a logical error.
+use letter_sums::Found;
+use letter_sums::LetterWords;
+use letter_sums::QUBIT_ROOM;
+use letters::Letter;
+use word_scan::first_place;
+ghost use mathlib.Core.Bool.{false};
+ghost use mathlib.Core.Path.{_≡_};
+ghost use Prim.Native.Nat.{_+_, _*_, _^_, min, _≤_, _<_};
+ghost use lib.ListN.{length};
+ghost use Rattle.letters.specs.Letters.{struckLetter};
+ghost use Rattle.word_scan.specs.Scan.{fits};
+ghost use Rattle.letter_sums.specs.Sums.{placedAt, foundAs, earliestOf, earliestUpTo, earliestBy};
 
-// How many qubits have words, as many as a mask has bits, and how many words that makes.
-pub const QUBIT_ROOM: usize = 32;
-pub const WORD_ROOM: usize = 96;
-
-// Two words for each of the letters X, Y, Z at each of the qubits: those of the letter numbered l (0, 1, 2) at the
-// qubit with m qubits to its right stand at the place 3 * m + l.
-pub struct LetterWords {
-    pub qubits: usize,
-    pub first: [u32; WORD_ROOM],
-    pub second: [u64; WORD_ROOM],
+// The masks of `gap` letters I, then the letter numbered 0, 1, 2 (X, Y, Z), then `right` letters that have the masks a
+// and b.
+fn placed(gap: usize, letter: usize, right: usize, a: u32, b: u32) -> Found
+    requires { ⌜ gap + right < 32 ⌝ }
+    requires { ⌜ a < 2 ^ right ⌝ }
+    requires { ⌜ b < 2 ^ right ⌝ }
+    ensures { λ r. ⌜ r ≡ placedAt gap (struckLetter letter) a b ⌝ }
+{
+    let l = Letter::struck(letter);
+    Found::At {
+        a: (l.x_bit() + 2 * a) << gap,
+        b: (l.z_bit() + 2 * b) << gap,
+    }
 }
 
-// The masks of the string that was found.
-pub enum Found {
-    At { a: u32, b: u32 },
-    Nothing,
+// The earliest string of one letter on the last `qubits` qubits.
+fn single(first: &[u32], second: &[u64], qubits: usize, want: u32, shun: u64) -> Found
+    requires { ⌜ qubits ≤ 32 ⌝ }
+    requires { ⌜ 3 * qubits ≤ length (now first) ⌝ }
+    requires { ⌜ 3 * qubits ≤ length (now second) ⌝ }
+    ensures { λ r. ⌜ r ≡ foundAs (earliestOf (now (first .entry)) (now (second .entry)) qubits 1 want shun) ⌝ }
+{
+    let end = 3 * qubits;
+    let place = first_place(&first[..end], &second[..end], want, shun);
+    if place >= end {
+        return Found::Nothing;
+    }
+    placed(qubits - place / 3 - 1, place % 3, place / 3, 0, 0)
+}
+
+// The earliest string of a weight on the last `qubits` qubits, a weight above 0. The fewer qubits are to the right of the first letter
+// that is not I, the earlier is the string.
+fn completion(
+    first: &[u32],
+    second: &[u64],
+    qubits: usize,
+    weight: usize,
+    want: u32,
+    shun: u64,
+) -> Found
+    requires { ⌜ 0 < weight ⌝ }
+    requires { ⌜ qubits ≤ 32 ⌝ }
+    requires { ⌜ 3 * qubits ≤ length (now first) ⌝ }
+    requires { ⌜ 3 * qubits ≤ length (now second) ⌝ }
+    ensures { λ r. ⌜ r ≡ foundAs (earliestOf (now (first .entry)) (now (second .entry)) qubits weight want shun) ⌝ }
+{
+    if weight == 1 {
+        return single(first, second, qubits, want, shun);
+    }
+    'search: loop {
+        for right in weight - 1..qubits {
+            for letter in 0..3usize {
+                let place = 3 * right + letter;
+                let behind = completion(
+                    first,
+                    second,
+                    right,
+                    weight - 1,
+                    want ^ first[place],
+                    shun ^ second[place],
+                );
+                if let Found::At { a, b } = behind {
+                    break 'search placed(qubits - right - 1, letter, right, a, b);
+                }
+            }
+        }
+        break Found::Nothing;
+    }
+}
+
+// The smaller of the two.
+fn smaller(m: usize, n: usize) -> usize
+    ensures { λ r. ⌜ r ≡ min m n ⌝ }
+{
+    if m < n { m } else { n }
+}
+
+// Whether the words of I, which are 0, are the ones wanted.
+fn identity_fits(want: u32, shun: u64) -> bool
+    ensures { λ r. ⌜ r ≡ fits want shun 0 0 ⌝ }
+{
+    want == 0 && shun != 0
+}
+
+// The earliest string of weight 1 to `most`.
+fn lightest(
+    first: &[u32],
+    second: &[u64],
+    qubits: usize,
+    most: usize,
+    want: u32,
+    shun: u64,
+) -> Found
+    requires { ⌜ most ≤ qubits ⌝ }
+    requires { ⌜ qubits ≤ 32 ⌝ }
+    requires { ⌜ 3 * qubits ≤ length (now first) ⌝ }
+    requires { ⌜ 3 * qubits ≤ length (now second) ⌝ }
+    requires { ⌜ fits want shun 0 0 ≡ false ⌝ }
+    ensures { λ r. ⌜ r ≡ foundAs (earliestUpTo (now (first .entry)) (now (second .entry)) qubits most want shun) ⌝ }
+{
+    'search: loop {
+        for weight in 1..most + 1 {
+            let found = completion(first, second, qubits, weight, want, shun);
+            if let Found::At { a, b } = found {
+                break 'search found;
+            }
+        }
+        break Found::Nothing;
+    }
+}
+
+// The earliest string of weight at most t. No string is heavier than it has letters.
+pub fn earliest(words: LetterWords, t: usize, want: u32, shun: u64) -> Found
+    ensures { λ r. ⌜ r ≡ earliestBy words t want shun ⌝ }
+{
+    if identity_fits(want, shun) {
+        return Found::At { a: 0, b: 0 };
+    }
+    let first = words.first;
+    let second = words.second;
+    let qubits = smaller(words.qubits, QUBIT_ROOM);
+    lightest(&first, &second, qubits, smaller(t, qubits), want, shun)
 }

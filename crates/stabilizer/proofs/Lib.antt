@@ -8,6 +8,7 @@ pub mod Generated
 pub mod Independent
 pub mod Members
 pub mod Reduction
+pub mod Remainder
 pub mod StabilizerRows
 pub mod Tests
 pub mod Theorems

@@ -224,6 +224,9 @@ module _ (n : ℕ) where
           let (qhs, e) = form qs in
           rw canonical-more (added-on-qubits n hs P qhs qP, added-echelon n hs P qhs qP e)
 
+  pub canonical-on-qubits : (rows : List Pauli) → OnQubits n rows → OnQubits n (canonicalGenerators n rows)
+  canonical-on-qubits rows q = canonical-form rows q .0
+
   pub canonical-echelon : (rows : List Pauli) → OnQubits n rows → Echelon n (canonicalGenerators n rows)
   canonical-echelon rows q = canonical-form rows q .1
 

@@ -4,7 +4,7 @@ use mathlib.Core.Bool.{Bool, true, false, cond}
 use mathlib.Core.List.{List, [], _∷_, _++_, map, foldl}
 use mathlib.Core.Logic.{_↔_, _≢_}
 use mathlib.Core.Path.{_≡_}
-use Prim.Native.Nat.{ℕ, zero, suc, _*_, _<_}
+use Prim.Native.Nat.{ℕ, zero, suc, _+_, _*_, _%_, _^_, _<_}
 use lib.Dec.{eqb, ltb}
 use lib.ListN.{length, getD}
 use Rattle.pauli.specs.declared.Pauli.{Pauli}
@@ -63,6 +63,14 @@ reduced n hs P = foldl (λ Q h. cleared n h Q) P hs
 -- Nothing but a phase is left of the row.
 unfoldable pub reducesToIdentity : ℕ → List Pauli → Pauli → Bool
 reducesToIdentity n hs P = sameMasks (reduced n hs P) identity
+
+-- What is left of the row, phase aside, as one number: its two masks side by side, each of 32 bits in a program. The
+-- remainder makes it additive whatever the masks.
+unfoldable pub sideBySide : ℕ → ℕ → ℕ
+sideBySide a b = a % 2 ^ 32 + 2 ^ 32 * b
+
+unfoldable pub remainderWord : ℕ → List Pauli → Pauli → ℕ
+remainderWord n hs P = sideBySide (reduced n hs P .a) (reduced n hs P .b)
 
 unfoldable pub insertByPivot : ℕ → Pauli → List Pauli → List Pauli
 insertByPivot n Q [] = Q ∷ []

@@ -4,7 +4,9 @@ use mathlib.Core.List.{List, [], _∷_, _++_}
 use mathlib.Core.Logic.{_↔_}
 use mathlib.Core.Option.{none, some}
 use mathlib.Core.Path.{_≡_}
-use Prim.Native.Nat.{ℕ, _≤_, _<_}
+use Prim.Native.Nat.{ℕ, _^_, _≤_, _<_}
+use lib.Bits.{bitXor}
+use lib.Dec.{eqb, ltb}
 use lib.ListN.{length, getD}
 use Rattle.pauli.specs.declared.Pauli.{Pauli}
 use Rattle.letters.specs.Lists.{anyOf, allOf}
@@ -19,7 +21,7 @@ use Rattle.sheet.specs.Statements.{RefusalLeaves, Among}
 use Rattle.stabilizer.specs.Group.{InGroup, group, InGroupUpToPhase, inGroupUpToPhase, memberSign}
 use Rattle.stabilizer.specs.Checks.{minusIdentity, generatorFault, groupFault}
 use Rattle.stabilizer.specs.Canonical.{ReducedEchelon, IsCanonical, reduced, reducesToIdentity}
-use Rattle.stabilizer.specs.Canonical.{canonicalGenerators, writeCanonical}
+use Rattle.stabilizer.specs.Canonical.{remainderWord, canonicalGenerators, writeCanonical}
 
 -- The list of the group has its members, signs included.
 abbrev pub GroupIsListed : Type 0
@@ -56,6 +58,21 @@ pub record ReductionDecidesMembership : Type 0 where
       → reducesToIdentity n rows P ≡ inGroupUpToPhase rows P
   pub canonical : (n : ℕ) (rows : List Pauli) → allOf (onQubits n) rows ≡ true → (P : Pauli)
       → reducesToIdentity n (canonicalGenerators n rows) P ≡ inGroupUpToPhase rows P
+
+-- What rows leave of a product, phase aside, is the sum of what they leave of the two, bit by bit, whatever the rows.
+abbrev pub RemainderIsAdditive : Type 0
+RemainderIsAdditive =
+    (n : ℕ) (rows : List Pauli) (P Q : Pauli)
+    → remainderWord n rows (product P Q) ≡ bitXor (remainderWord n rows P) (remainderWord n rows Q)
+
+-- It is 0 exactly where the Pauli reduces to I; so, by the canonical generators of any rows, exactly where the Pauli is
+-- in the group, phase aside. The X masks have to fit their 32 bits.
+pub record RemainderTellsMembers : Type 0 where
+  pub reduces : (n : ℕ) (rows : List Pauli) → allOf (λ h. ltb (h .a) (2 ^ 32)) rows ≡ true → (P : Pauli)
+      → P .a < 2 ^ 32
+      → eqb (remainderWord n rows P) 0 ≡ reducesToIdentity n rows P
+  pub canonical : (n : ℕ) (rows : List Pauli) → n ≤ 32 → allOf (onQubits n) rows ≡ true → (P : Pauli) → P .a < 2 ^ 32
+      → eqb (remainderWord n (canonicalGenerators n rows) P) 0 ≡ inGroupUpToPhase rows P
 
 -- Rows of n qubits that generate a stabilizer group: they commute, and no product of them is -I. Some of them may be
 -- products of others.

@@ -1,0 +1,2 @@
+pub mod ClaimFaults
+pub mod Theorems

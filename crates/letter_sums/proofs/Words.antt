@@ -1,0 +1,206 @@
+-- The steps of the search at words: the state is what is still wanted and shunned, and a letter takes its words away
+-- from it. The last letter is where its words fit.
+use mathlib.Core.Bool.{Bool, true, false, not, _&&_}
+use mathlib.Core.List.{List, _∷_, _++_}
+use mathlib.Core.Option.{Option, none, some}
+use mathlib.Core.Path.{_≡_, refl, ap, ap₂, sym, subst, _∙_}
+use Prim.Native.Nat.{ℕ, zero, suc, _+_, _*_, _-_, _/_, _%_, _^_, min, _≤_, _<_}
+use native.Mathlib.Numerals.{add-one}
+use native.Mathlib.Omega.{arith}
+use borrow.Author.Tests.{eqb-true, eq-eqb}
+use lib.Bits.{bitXor, xor-self, xor-comm, xor-zero-r, xor-zero-l}
+use lib.Dec.{eqb}
+use lib.ListN.{getD, replicate, length}
+use Rattle.letters.specs.declared.Letter.{Letter}
+use Rattle.letters.specs.declared.Letter.the-variants.{I, X, Y, Z}
+use Rattle.letters.specs.Letters.{struckLetter}
+use Rattle.pauli.proofs.Letters.{xMask-lt, zMask-lt}
+use Rattle.pauli.proofs.Masks.{xor-assoc}
+use Rattle.word_scan.specs.Scan.{fits}
+use Rattle.letter_sums.specs.Sums.{wordAt, sumOf, sumsTo, passes, earliestOf, earliestUpTo}
+use Rattle.letter_sums.proofs.Masks.{Masked}
+use Rattle.letter_sums.proofs.Steps as steps
+use Rattle.letter_sums.proofs.Steps.{first, firstUpTo}
+
+pub same-tests : (s t : Bool) → (s ≡ true → t ≡ true) → (t ≡ true → s ≡ true) → s ≡ t
+same-tests true t h k = sym (h refl)
+same-tests false true h k = k refl
+same-tests false false h k = refl
+
+-- w + x is `want` where x is want + w.
+sum-moves : (w x want : ℕ) → eqb (bitXor w x) want ≡ eqb x (bitXor want w)
+sum-moves w x want =
+    same-tests (eqb (bitXor w x) want) (eqb x (bitXor want w))
+    (λ h. eq-eqb x (bitXor want w) (moved w x want (eqb-true (bitXor w x) want h)))
+    (λ h. eq-eqb (bitXor w x) want (back w x want (eqb-true x (bitXor want w) h)))
+  where
+    moved : (w x want : ℕ) → bitXor w x ≡ want → x ≡ bitXor want w
+    moved w x want e =
+        sym (ap (λ (k : ℕ). bitXor k w) (sym e ∙ xor-comm w x) ∙ xor-assoc x w w ∙ ap (bitXor x) (xor-self w)
+        ∙ xor-zero-r x)
+
+    back : (w x want : ℕ) → x ≡ bitXor want w → bitXor w x ≡ want
+    back w x want e =
+        ap (bitXor w) (e ∙ xor-comm want w) ∙ sym (xor-assoc w w want) ∙ ap (λ (k : ℕ). bitXor k want) (xor-self w)
+        ∙ xor-zero-l want
+
+word-number : (words : List ℕ) (n k : ℕ) → k < 3 → wordAt words n (struckLetter k) ≡ getD words (3 * n + k) 0
+unfolding wordAt struckLetter
+word-number words n zero h = ap (λ (i : ℕ). getD words i 0) (omega arith)
+word-number words n (suc zero) h = refl
+word-number words n (suc (suc zero)) h = refl
+word-number words n (suc (suc (suc k))) h = absurd (omega arith)
+
+module _ (words second : List ℕ) where
+  abbrev test : ℕ → ℕ × ℕ → List Letter → Bool
+  test n σ s = passes words second n (σ .0) (σ .1) s
+
+  abbrev after : ℕ → Letter → ℕ × ℕ → ℕ × ℕ
+  after n l σ = (bitXor (σ .0) (wordAt words n l), bitXor (σ .1) (wordAt second n l))
+
+  moves : (n : ℕ) (σ : ℕ × ℕ) (l : Letter) (s : List Letter) → test (suc n) σ (l ∷ s) ≡ test n (after n l σ) s
+  unfolding passes sumsTo sumOf
+  moves n σ l s =
+      ap₂ (λ (x y : Bool). x && not y) (sum-moves (wordAt words n l) (sumOf words n s) (σ .0))
+      (sum-moves (wordAt second n l) (sumOf second n s) (σ .1))
+
+  still : (n : ℕ) (σ : ℕ × ℕ) → after n I σ ≡ σ
+  unfolding wordAt
+  still n σ = ap₂ (λ (x y : ℕ). (x, y)) (xor-zero-r (σ .0)) (xor-zero-r (σ .1))
+
+  -- What is found behind the letter with number k at the qubit with n qubits to its right.
+  abbrev pub behind : ℕ → ℕ → ℕ → ℕ → ℕ → Option (List Letter)
+  behind n v want shun k =
+      earliestOf words second n v (bitXor want (getD words (3 * n + k) 0)) (bitXor shun (getD second (3 * n + k) 0))
+
+  -- None among the first k of the letters X, Y, Z there.
+  abbrev pub NoneBelow : ℕ → ℕ → ℕ → ℕ → ℕ → Type 0
+  NoneBelow n v want shun k = (j : ℕ) → j < k → behind n v want shun j ≡ none
+
+  at-number : (n v want shun k : ℕ) → k < 3
+      → steps.first test after moves still n v (after n (struckLetter k) (want, shun)) ≡ behind n v want shun k
+  unfolding first earliestOf
+  at-number n v want shun k h =
+      ap₂ (λ (x y : ℕ). earliestOf words second n v (bitXor want x) (bitXor shun y)) (word-number words n k h)
+      (word-number second n k h)
+
+  pub found-length : (n v want shun : ℕ) (s : List Letter) → earliestOf words second n v want shun ≡ some s
+      → length s ≡ n
+  unfolding first earliestOf
+  found-length n v want shun s e = steps.first-length test after moves still n v (want, shun) s e
+
+  pub none-short : (n v want shun : ℕ) → n < v → earliestOf words second n v want shun ≡ none
+  unfolding first earliestOf
+  none-short n v want shun h = steps.none-short test after moves still n v (want, shun) h
+
+  pub none-to-the-right : (n w want shun : ℕ) → 0 < w → earliestOf words second n w want shun ≡ none
+      → NoneBelow n (w - 1) want shun 3 → earliestOf words second (n + 1) w want shun ≡ none
+  unfolding first earliestOf
+  none-to-the-right n w want shun h before each =
+      steps.none-to-the-right test after moves still n w (want, shun) h before
+      λ j l. at-number n (w - 1) want shun j l ∙ each j l
+
+  pub found-here : (n w want shun right k : ℕ) (s : List Letter) → 0 < w → right < n → k < 3
+      → earliestOf words second right w want shun ≡ none → NoneBelow right (w - 1) want shun k
+      → behind right (w - 1) want shun k ≡ some s
+      → earliestOf words second n w want shun ≡ some (replicate (n - right - 1) I ++ (struckLetter k ∷ s))
+  unfolding first earliestOf
+  found-here n w want shun right k s h below hk before each here =
+      steps.found-here test after moves still n w (want, shun) right k s h below hk before
+      (λ j l. at-number right (w - 1) want shun j (omega arith) ∙ each j l)
+      (at-number right (w - 1) want shun k hk ∙ here)
+
+  pub found-nowhere : (n w want shun right : ℕ) → 0 < w → n ≤ right
+      → earliestOf words second right w want shun ≡ none → earliestOf words second n w want shun ≡ none
+  unfolding first earliestOf
+  found-nowhere n w want shun right h le before =
+      steps.found-nowhere test after moves still n w (want, shun) right h le before
+
+  -- The masks of a string that is found have no bit above its letters.
+  pub masks-lt : (n v want shun a b : ℕ) → Masked (earliestOf words second n v want shun) a b
+      → (a < 2 ^ n) × (b < 2 ^ n)
+  masks-lt n v want shun a b m =
+      let long = found-length n v want shun (m .string) (m .told) in (
+        subst (λ (k : ℕ). a < 2 ^ k) long (rw (m .isA) (xMask-lt (m .string))),
+        subst (λ (k : ℕ). b < 2 ^ k) long (rw (m .isB) (zMask-lt (m .string))),
+      )
+
+  -- ---- the weights in turn
+
+  abbrev pub NoneLighter : ℕ → ℕ → ℕ → ℕ → Type 0
+  NoneLighter n want shun w = (v : ℕ) → v < w → earliestOf words second n v want shun ≡ none
+
+  pub up-to-none : (n t want shun w : ℕ) → t < w → NoneLighter n want shun w
+      → earliestUpTo words second n t want shun ≡ none
+  unfolding first firstUpTo earliestOf earliestUpTo
+  up-to-none n t want shun w h each = steps.up-to-none test after moves still n t (want, shun) w h each
+
+  -- No string of n letters is heavier than n.
+  pub up-to-all : (n t want shun : ℕ)
+      → earliestUpTo words second n (min t n) want shun ≡ earliestUpTo words second n t want shun
+  unfolding firstUpTo earliestUpTo
+  up-to-all n t want shun = steps.up-to-all test after moves still n t (want, shun)
+
+  pub up-to-some : (n t want shun w : ℕ) (s : List Letter) → w ≤ t → NoneLighter n want shun w
+      → earliestOf words second n w want shun ≡ some s → earliestUpTo words second n t want shun ≡ some s
+  unfolding first firstUpTo earliestOf earliestUpTo
+  up-to-some n t want shun w s h each here = steps.up-to-some test after moves still n t (want, shun) w s h each here
+
+  -- ---- no letters left
+
+  -- I fits, or it does not.
+  weightless : (n want shun : ℕ)
+      → earliestOf words second n 0 want shun ≡ elim (fits want shun 0 0) [ true ↦ some (replicate n I) | false ↦ none ]
+  unfolding first earliestOf passes sumsTo sumOf fits
+  weightless n want shun = steps.weightless test after moves still n (want, shun)
+
+  -- I is the earliest string; where it does not fit, the weights are tried from 1 on.
+  pub identity-first : (n t want shun : ℕ) → fits want shun 0 0 ≡ true
+      → earliestUpTo words second n t want shun ≡ some (replicate n I)
+  identity-first n t want shun e =
+      up-to-some n t want shun 0 (replicate n I) (omega arith) (λ v h. absurd (omega arith))
+      (weightless n want shun ∙ rw e)
+
+  pub none-lighter-than-one : (n want shun : ℕ) → fits want shun 0 0 ≡ false → NoneLighter n want shun 1
+  none-lighter-than-one n want shun e zero h = weightless n want shun ∙ rw e
+  none-lighter-than-one n want shun e (suc v) h = absurd (omega arith)
+
+  -- ---- the last letter
+
+  -- The words of a last letter fit, or they do not.
+  last-letter : (n want shun k : ℕ)
+      → behind n 0 want shun k ≡ elim (fits want shun (getD words (3 * n + k) 0) (getD second (3 * n + k) 0))
+      [ true ↦ some (replicate n I) | false ↦ none ]
+  unfolding fits
+  last-letter n want shun k =
+      weightless n _ _ ∙ rw (compared (getD words (3 * n + k) 0) want, compared (getD second (3 * n + k) 0) shun)
+    where
+      compared : (w sum : ℕ) → eqb 0 (bitXor sum w) ≡ eqb w sum
+      compared w sum = sym (sum-moves w 0 sum) ∙ ap (λ (x : ℕ). eqb x sum) (xor-zero-r w)
+
+  module _ (want shun : ℕ) where
+    abbrev pub FitsAt : ℕ → Bool → Type 0
+    FitsAt place told = fits want shun (getD words place 0) (getD second place 0) ≡ told
+
+    none-there : (n k : ℕ) → FitsAt (3 * n + k) false → behind n 0 want shun k ≡ none
+    none-there n k e = last-letter n want shun k ∙ rw e
+
+    some-there : (n k : ℕ) → FitsAt (3 * n + k) true → behind n 0 want shun k ≡ some (replicate n I)
+    some-there n k e = last-letter n want shun k ∙ rw e
+
+    pub none-single : (n : ℕ) → ((j : ℕ) → j < 3 * n → FitsAt j false) → earliestOf words second n 1 want shun ≡ none
+    none-single zero each = none-short 0 1 want shun (omega arith)
+    none-single (suc n) each =
+        subst (λ (m : ℕ). earliestOf words second m 1 want shun ≡ none) (add-one n)
+        (none-to-the-right n 1 want shun (omega arith) (none-single n (λ j l. each j (omega arith)))
+        (λ k l. none-there n k (each (3 * n + k) (omega arith))))
+
+    pub some-single : (n place : ℕ) → place < 3 * n → ((j : ℕ) → j < place → FitsAt j false) → FitsAt place true
+        → earliestOf words second n 1 want shun
+        ≡ some (replicate (n - place / 3 - 1) I ++ (struckLetter (place % 3) ∷ replicate (place / 3) I))
+    some-single n place inside each here =
+        let at : 3 * (place / 3) + place % 3 ≡ place = omega arith in
+        found-here n 1 want shun (place / 3) (place % 3) (replicate (place / 3) I) (omega arith) (omega arith)
+        (omega arith) (none-single (place / 3) (λ j l. each j (omega arith)))
+        (λ k l. none-there (place / 3) k (each (3 * (place / 3) + k) (omega arith)))
+        (some-there (place / 3) (place % 3) (subst (λ (p : ℕ). FitsAt p true) (sym at) here))

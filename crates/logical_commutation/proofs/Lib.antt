@@ -1,0 +1,2 @@
+pub mod MaskFault
+pub mod Numbers

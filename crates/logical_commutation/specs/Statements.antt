@@ -1,0 +1,16 @@
+-- What is stated of 9 over a record's logicals.
+use mathlib.Core.List.{[], _∷_}
+use mathlib.Core.Option.{some}
+use mathlib.Core.Path.{_≡_}
+use Rattle.refusals.specs.declared.Refusal.{Refusal}
+use Rattle.refusals.specs.Refusals.{_then_}
+use Rattle.code_record.specs.declared.Code.{Code}
+use Rattle.code_record.specs.Record.{limitsFault}
+use Rattle.sheet.specs.Statements.{Among}
+use Rattle.admission.specs.Logicals.{detectedFault}
+
+-- RULES, "Refusals": the numbers with which the call refuses.
+abbrev pub LogicalCommutationRefusalNumbers : Type 0
+LogicalCommutationRefusalNumbers =
+    (c : Code) (refusal : Refusal) → (limitsFault c then detectedFault c) ≡ some refusal
+    → Among (9 ∷ 15 ∷ []) refusal

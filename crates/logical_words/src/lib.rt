@@ -1,0 +1,34 @@
+// The words by which the search finds a code's logical errors: beside its syndrome each letter at each qubit has what
+// the canonical generators leave of it.
+use code_record::Code;
+use letter_sums::LetterWords;
+use letter_words::single_letter;
+use letter_words::syndrome_words;
+use pauli::Pauli;
+use reduced_rows::ReducedRows;
+ghost use mathlib.Core.Path.{_≡_};
+ghost use Rattle.stabilizer.specs.Canonical.{remainderWord};
+ghost use Rattle.reduced_rows.specs.Rows.{rowsIn};
+ghost use Rattle.logical_words.specs.Words.{logicalWords};
+
+// What the rows leave of a Pauli, phase aside: its two masks side by side.
+fn remainder_word(rows: ReducedRows, p: Pauli) -> u64
+    ensures { λ r. ⌜ r ≡ remainderWord (rows .n) (rowsIn rows) p ⌝ }
+{
+    let left = rows.reduce(p);
+    left.a as u64 + 4294967296 * (left.b as u64)
+}
+
+// The syndromes of the letters X, Y, Z at each qubit are the first words, and what the rows leave of them the second.
+pub fn logical_words(code: Code, rows: ReducedRows) -> LetterWords
+    ensures { λ r. ⌜ r ≡ logicalWords code rows ⌝ }
+{
+    let mut words = syndrome_words(code);
+    let qubits = words.qubits;
+    let mut at: usize = 0;
+    while at < 3 * qubits {
+        words.second[at] = remainder_word(rows, single_letter(qubits - 1 - at / 3, at % 3));
+        at += 1;
+    }
+    words
+}

@@ -1,0 +1,141 @@
+-- The weight falls at each call. No string of the weight on the qubits passed is found, nor one that begins with a
+-- letter passed at the next qubit.
+use mathlib.Core.Path.{_≡_, sym, subst, _∙_}
+use mathlib.Core.Option.{none}
+use Prim.Native.Nat.{ℕ, _<_, _≤_, _-_}
+use native.Mathlib.Omega.{arith}
+use borrow.Author.Needs.{needs}
+use borrow.Author.Count.{below-more}
+use borrow.Fn.Kinds.{In}
+use borrow.Fn.PlainCycle.{Measures, is, falls, and}
+use Rattle.letters.specs.Letters.{struckLetter}
+use Rattle.letter_sums.specs.Sums.{earliestOf, foundAs}
+use Rattle.letter_sums.proofs.Masks.{found-some, found-nothing}
+use Rattle.letter_sums.proofs.Masks.{placed-found, nothing-found}
+use Rattle.letter_sums.proofs.Words.{NoneBelow, none-short}
+use Rattle.letter_sums.proofs.Words.{none-to-the-right, found-here, found-nowhere, masks-lt}
+use Rattle.search.proofs.completion.Reads as completion
+use Rattle.search.proofs.completion.Kinds as completion-kinds
+use Rattle.search.proofs.+completion.Lts-completion as completion-lts
+use Rattle.search.proofs.placed.Reads as placed-reads
+use Rattle.search.proofs.single.Reads as single-reads
+use Rattle.search.proofs.+completion.{statement}
+use Rattle.search.proofs.+completion.Tie.{close}
+
+abbrev μ-completion : Measures 2 completion-kinds.ps ℕ
+μ-completion κs a = a .1 .1 .1 .0
+
+abbrev completion-at : ℕ → In 2 completion-kinds.ps
+completion-at t = and 2 completion-kinds.ps (is 2 completion-kinds.ps μ-completion t) completion.Pre
+
+abbrev completion-below : ℕ → In 2 completion-kinds.ps
+completion-below t = and 2 completion-kinds.ps (falls 2 completion-kinds.ps _<_ μ-completion t) completion.Pre
+
+abbrev Inv-loop2 : completion-lts.InvT-loop2
+Inv-loop2 first second qubits weight want shun right letter₀ letter =
+    (letter ≤ 3) × NoneBelow first second right (weight - 1) want shun letter
+
+abbrev μ-loop2 : completion-lts.MeasureT-loop2
+μ-loop2 first second qubits weight want shun right letter₀ letter = 3 - letter
+
+abbrev Inv-loop : completion-lts.InvT-loop
+Inv-loop first second qubits weight want shun right₀ right = earliestOf first second right weight want shun ≡ none
+
+abbrev μ-loop : completion-lts.MeasureT-loop
+μ-loop first second qubits weight want shun right₀ right = qubits - right
+
+abbrev Inv-search : completion-lts.InvT-search
+Inv-search first second qubits weight want shun = Unit {0}
+
+abbrev μ-search : completion-lts.MeasureT-search
+μ-search first second qubits weight want shun = 0
+
+pub +completion-spec : {M : Type 1} → statement M
++completion-spec = close μ-completion λ t. completion-lts.spec (
+  single-reads.Asked,
+  single-reads.Learnt,
+  completion-below t,
+  completion.Post,
+  placed-reads.Asked,
+  placed-reads.Learnt,
+)
+    (completion-at t)
+    completion.Post
+    Inv-loop2
+    μ-loop2
+    Inv-loop
+    μ-loop
+    Inv-search
+    μ-search
+    (λ c κs. search needs)  -- single-requires
+    -- returns
+    (λ c.
+    let a = c .before .before .before .before .args in
+    subst (λ (w : ℕ). c .single .result
+    ≡ foundAs (earliestOf (a .first .now) (a .second .now) (a .qubits) w (a .want) (a .shun)))
+    (sym (c .before .if1 .taken)) (c .single .ensures))
+    (λ c. search needs)  -- search-holds
+    (λ c. search needs)  -- sub-right
+    -- loop-holds
+    (λ c.
+    let a = c .before .before .before .before .args in
+    none-short (a .first .now) (a .second .now) (a .weight - 1) (a .weight) (a .want) (a .shun) (omega arith))
+    (λ c. (omega arith, λ j h. absurd (omega arith)))  -- loop2-holds
+    (λ c. search needs)  -- mul-place
+    (λ c. search needs)  -- add-place
+    (λ c. search needs)  -- sub-completion
+    (λ c. search needs)  -- mul-completion
+    (λ c. search needs)  -- shared-slice-read-completion
+    (λ c. search needs)  -- mul-completion-2
+    (λ c. search needs)  -- shared-slice-read-completion-2
+    (λ c κs. search needs)  -- completion-requires
+    (λ c. search needs)  -- enum-known-behind
+    (λ c. search needs)  -- sub-placed
+    (λ c. search needs)  -- sub-placed-2
+    -- placed-requires
+    (λ c κs.
+    let call = c .before .before .before in
+    let right = call .before .before .before .before .before .before .loop .right in
+    let told = found-some _ _ _ (sym (c .before .behind .given .1) ∙ call .completion .ensures) in
+    (omega arith, masks-lt _ _ right _ _ _ _ _ told))
+    (λ c. search needs)  -- enum-told
+    (λ c. search needs)  -- add-letter
+    (λ c. search needs)  -- loop2-less
+    -- loop2-again
+    (λ c.
+    let call = c .before .before in
+    let turn = call .before .before .before .before in (
+      omega arith,
+      below-more _ _ (turn .loop2 .inv .1)
+          (found-nothing _ (sym (c .enum-told .given .1) ∙ call .completion .ensures)),
+    ))
+    (λ c. search needs)  -- add-right
+    (λ c. search needs)  -- loop-less
+    -- loop-again
+    (λ c.
+    let at = c .before .before .before in
+    let a = at .before .before .before .before .before .args in
+    none-to-the-right (a .first .now) (a .second .now) (at .loop .right) (a .weight) (a .want) (a .shun)
+    (omega arith) (at .loop .inv) λ j h. c .before .loop2 .inv .1 j (omega arith))
+    -- returns-2
+    (λ c.
+    let found = c .before .before in
+    let call = found .before .before in
+    let turn = call .before .before .before .before in
+    let at = turn .before .before in
+    let start = at .before .before .before .before .before in
+    let a = start .args in
+    let told = found-some _ _ _ (sym (found .behind .given .1) ∙ call .completion .ensures) in
+    c .placed .ensures
+    ∙ placed-found (a .qubits - at .loop .right - 1) _ _ (struckLetter (turn .loop2 .letter)) (told .string) _
+    (told .isA) (told .isB)
+    (found-here (a .first .now) (a .second .now) (a .qubits) (a .weight) (a .want) (a .shun) (at .loop .right)
+    (turn .loop2 .letter) (told .string) (start .pre .1 .0) (omega arith) (omega arith) (at .loop .inv)
+    (turn .loop2 .inv .1) (told .told)))
+    -- returns-3
+    (λ c.
+    let at = c .before in
+    let a = at .before .before .before .before .before .args in
+    nothing-found _
+    (found-nowhere (a .first .now) (a .second .now) (a .qubits) (a .weight) (a .want) (a .shun) (at .loop .right)
+    (omega arith) (omega arith) (at .loop .inv)))

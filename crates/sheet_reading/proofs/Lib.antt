@@ -1,0 +1,2 @@
+pub mod FormChecked
+pub mod WithinLimits
