@@ -10,9 +10,6 @@ use crate::random::Random;
 use crate::record::{LAST_CHANGE, SAME_MODULO_4};
 use std::collections::HashSet;
 
-/// Whether the test program has the kinds of cases about admission.
-const WITH_ADMISSION: bool = false;
-
 /// Cases, and how many of them are kept.
 struct Part {
     cases: Vec<Case>,
@@ -45,9 +42,7 @@ fn parts() -> Vec<Part> {
     let mut parts = products::parts();
     parts.extend(sheets::parts());
     parts.extend(groups::parts());
-    if WITH_ADMISSION {
-        parts.extend(admissions::parts());
-    }
+    parts.extend(admissions::parts());
     parts
 }
 
@@ -115,8 +110,7 @@ mod tests {
         let input = lines(cases.iter().flat_map(Case::bytes));
         assert!(input + lines(answers.iter().copied()) < 10_000);
         let answers = String::from_utf8_lossy(&answers);
-        let of_admission = if WITH_ADMISSION { 9..15 } else { 0..0 };
-        for number in (1..=8).chain(of_admission).chain([15, 17]) {
+        for number in (1..=15).chain([17]) {
             assert!(answers.contains(&format!(" r={number} at=")), "{number}");
         }
         let changes: HashSet<usize> = cases.iter().map(|case| case.change).collect();
