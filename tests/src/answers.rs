@@ -1,5 +1,6 @@
 //! What the test program has to write for a case.
 
+use crate::admission::{self, Fault};
 use crate::cases::{Case, Kind};
 use crate::group::member;
 use crate::product::{commute, product};
@@ -12,6 +13,8 @@ pub fn answer(case: &Case) -> Vec<u8> {
         Kind::Sheet => sheet(&case.text, case.change),
         Kind::Lines => lines(&case.text, case.change),
         Kind::Group => group(&case.text, case.change),
+        Kind::Admission => admission(&case.text).into(),
+        Kind::Checks => checks(&case.text, case.change).into(),
     }
 }
 
@@ -163,6 +166,42 @@ fn membership(generators: &Result<Vec<Row>, Refusal>, probe: Option<Vec<Letter>>
     };
     let sign = generators.as_ref().map(sign);
     format!(" {}", value(sign))
+}
+
+/// Whether the sheet is admitted or how it is refused, and the record beside that: its numbers and some rows.
+fn admission(text: &[u8]) -> String {
+    let sheet = admission::admit(text);
+    let record = sheet.as_ref().map_or(Record::EMPTY, Record::of);
+    let answer = verdict(sheet.as_ref().map(|_| "admitted"));
+    format!("admission {answer}\n") + &numbers_of(&record) + &some_rows(&record)
+}
+
+/// Whether the changed record of a sheet passes its checks. w is said to stand on a line that no sheet has.
+fn checks(text: &[u8], change: usize) -> String {
+    let mut record = sheet::read_alone(text).map_or(Record::EMPTY, |sheet| Record::of(&sheet));
+    record.change(change);
+    let answer = admission::check_record(&record, 1000 + change);
+    let answer = verdict(answer.as_ref().map(|()| "passed"));
+    format!("checks {answer}\n")
+}
+
+/// A word, or a refusal; with 14 also the count of qubits, and the phases and masks of the two errors.
+fn verdict(answer: Result<&str, &Fault>) -> String {
+    let refusal = value(answer.map_err(|fault| &fault.refusal));
+    match answer.err().and_then(|fault| fault.errors.as_ref()) {
+        Some(errors) => format!("{refusal} errors {}{}", errors[0].len(), pair(errors)),
+        None => refusal,
+    }
+}
+
+fn pair(errors: &[Vec<Letter>; 2]) -> String {
+    let numbers = |letters: &Vec<Letter>| {
+        let letters = letters.clone();
+        let minus = false;
+        let Pauli { p, a, b } = Pauli::of(&Row { minus, letters });
+        format!(" {p} {a} {b}")
+    };
+    errors.iter().map(numbers).collect()
 }
 
 /// What a writer does with a byte less than its lines take, with as many, and with three more.

@@ -5,17 +5,27 @@
 
 const HEADER: usize = 10;
 
-/// Products of rows; a sheet that is read and written; single lines of a sheet; the group of a sheet's generators.
+/// Products of rows; a sheet that is read and written; single lines of a sheet; the group of a sheet's generators; the
+/// admission of a sheet; the checks of a record.
 #[derive(Clone, Copy, PartialEq, Eq, Hash, Debug)]
 pub enum Kind {
     Products,
     Sheet,
     Lines,
     Group,
+    Admission,
+    Checks,
 }
 
 impl Kind {
-    const ALL: [Kind; 4] = [Kind::Products, Kind::Sheet, Kind::Lines, Kind::Group];
+    const ALL: [Kind; 6] = [
+        Kind::Products,
+        Kind::Sheet,
+        Kind::Lines,
+        Kind::Group,
+        Kind::Admission,
+        Kind::Checks,
+    ];
 
     fn letter(self) -> char {
         match self {
@@ -23,6 +33,8 @@ impl Kind {
             Kind::Sheet => 's',
             Kind::Lines => 'l',
             Kind::Group => 'g',
+            Kind::Admission => 'a',
+            Kind::Checks => 'c',
         }
     }
 }

@@ -51,7 +51,7 @@ fn member_of_all(rows: &[Row], letters: &[Letter]) -> Option<Row> {
 }
 
 /// The products of all selections: each row doubles them, since it is left out or taken.
-fn all_products(rows: &[Row], n: usize) -> Vec<Row> {
+pub fn all_products(rows: &[Row], n: usize) -> Vec<Row> {
     let mut products = vec![identity(n)];
     for row in rows {
         let with_row: Vec<Row> = products.iter().map(|p| commuting_product(p, row)).collect();

@@ -15,9 +15,30 @@ pub fn commuting(random: &mut Random, n: usize) -> Vec<Row> {
 /// A sheet with r generators that passes the checks 6 to 10: Z on each qubit, and X on those behind the first r,
 /// turned many times.
 pub fn code(random: &mut Random, n: usize, r: usize) -> Sheet {
+    let rows = all_rows(random, n, r);
+    let rows = turned_many_times(random, n, rows);
+    sheet(rows, n, r)
+}
+
+/// The same, turned about rows with any letters, so that the rows have many letters other than I.
+pub fn dense_code(random: &mut Random, n: usize, r: usize) -> Sheet {
+    let mut rows = all_rows(random, n, r);
+    for _ in 0..2 * n + random.index(n) {
+        let about = any_row(random, n);
+        rows = rows.iter().map(|row| turned(row, &about)).collect();
+    }
+    sheet(rows, n, r)
+}
+
+/// Z on each qubit, and X on those behind the first r.
+fn all_rows(random: &mut Random, n: usize, r: usize) -> Vec<Row> {
     let mut rows = on_each_qubit(random, n, Letter::Z);
     rows.extend(on_each_qubit(random, n, Letter::X).split_off(r));
-    let mut generators = turned_many_times(random, n, rows);
+    rows
+}
+
+/// The sheet of such rows: r generators, the Z logicals, the X logicals.
+fn sheet(mut generators: Vec<Row>, n: usize, r: usize) -> Sheet {
     let xs = generators.split_off(n);
     let zs = generators.split_off(r);
     let claim = xs[0].letters.clone();
@@ -127,7 +148,8 @@ mod tests {
         let mut random = Random(7);
         for n in 2..=24 {
             let r = 1 + random.index(n - 1);
-            let sheet = code(&mut random, n, r);
+            let make = random.pick(&[code, dense_code]);
+            let sheet = make(&mut random, n, r);
             let logicals: Vec<&Row> = sheet.xs.iter().chain(&sheet.zs).collect();
             assert_eq!(check(&sheet.generators), Ok(()));
             for (i, one) in logicals.iter().enumerate() {

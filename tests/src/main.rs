@@ -4,16 +4,24 @@
 //!
 //! `independent cases` writes a selection of the cases, and `independent answers` reads cases and writes an answer
 //! for each: these two make crates/test_calls/stdin and crates/test_calls/stdout. `independent compare PROGRAM` runs
-//! the program on all cases and compares its answers.
+//! the program on all cases and compares its answers. `independent benchmark PROGRAM` is no test: it prints how long the
+//! walks through strings take that the program makes, beside those made here.
 
+mod admission;
 mod answers;
+mod benchmark;
 mod cases;
+mod classical;
+mod codes;
 mod compare;
 mod damage;
+mod faults;
 mod group;
 mod lists;
+mod logical_errors;
 mod parts;
 mod product;
+mod published;
 mod random;
 mod record;
 mod samples;
@@ -31,8 +39,12 @@ fn main() -> ExitCode {
         ["cases"] => write(parts::selection().iter().flat_map(Case::bytes)),
         ["answers"] => write(cases::read(&input()).iter().flat_map(answers::answer)),
         ["compare", program] => return compare::compare(Path::new(program)),
+        ["benchmark"] => benchmark::benchmark(None),
+        ["benchmark", program] => benchmark::benchmark(Some(Path::new(program))),
         _ => {
-            eprintln!("cases; or answers, with cases on standard input; or compare and a program");
+            eprintln!(
+                "cases; or answers, with cases on standard input; or compare and a program; or benchmark and a program"
+            );
             return ExitCode::FAILURE;
         }
     }

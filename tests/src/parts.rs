@@ -1,5 +1,6 @@
 //! The cases, part by part. The test program is run on all of them; a selection of each part is kept as files.
 
+mod admissions;
 mod groups;
 mod products;
 mod sheets;
@@ -41,6 +42,7 @@ fn parts() -> Vec<Part> {
     let mut parts = products::parts();
     parts.extend(sheets::parts());
     parts.extend(groups::parts());
+    parts.extend(admissions::parts());
     parts
 }
 
@@ -69,7 +71,7 @@ pub fn all() -> Vec<Case> {
 fn change(random: &mut Random, case: &Case) -> Option<usize> {
     match case.kind {
         Kind::Sheet if case.change == 0 => Some(1 + random.index(LAST_CHANGE)),
-        Kind::Group if case.change == 0 => Some(random.pick(&SAME_MODULO_4)),
+        Kind::Group | Kind::Checks if case.change == 0 => Some(random.pick(&SAME_MODULO_4)),
         _ => None,
     }
 }
@@ -108,7 +110,7 @@ mod tests {
         let input = lines(cases.iter().flat_map(Case::bytes));
         assert!(input + lines(answers.iter().copied()) < 10_000);
         let answers = String::from_utf8_lossy(&answers);
-        for number in [1, 2, 3, 4, 5, 6, 7, 8, 15, 17] {
+        for number in (1..=15).chain([17]) {
             assert!(answers.contains(&format!(" r={number} at=")), "{number}");
         }
         let changes: HashSet<usize> = cases.iter().map(|case| case.change).collect();

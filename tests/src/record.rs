@@ -122,7 +122,7 @@ impl Record {
     }
 
     /// Check 15.
-    fn within_limits(&self) -> Result<Sheet, Refusal> {
+    pub fn within_limits(&self) -> Result<Sheet, Refusal> {
         self.sheet().ok_or(Refusal::new(15, 0))
     }
 
@@ -239,7 +239,7 @@ impl Pauli {
         line(key, &Row { minus, letters }.text())
     }
 
-    fn letters(&self, n: usize) -> Vec<Letter> {
+    pub fn letters(&self, n: usize) -> Vec<Letter> {
         let at = |qubit: usize| (self.a >> qubit & 1, self.b >> qubit & 1);
         (0..n).map(|qubit| letter(at(qubit))).collect()
     }

@@ -1,7 +1,7 @@
 //! The sheet: its lines, the checks 1 to 5 that reading them makes, and the text that the writer gives.
 
 /// In the order in which letters are compared.
-#[derive(Clone, Copy, PartialEq, Eq, PartialOrd, Ord, Debug)]
+#[derive(Clone, Copy, PartialEq, Eq, PartialOrd, Ord, Hash, Debug)]
 pub enum Letter {
     I,
     X,

@@ -1,12 +1,16 @@
 // Runs the calls that are proved, so that they can be compared with an implementation that shares nothing with them.
 // Standard input is a run of cases, each of one kind: "p" for products of rows, "s" for a sheet that is read and
-// written back, "l" for single lines of a sheet, "g" for the group of a sheet's generators.
+// written back, "l" for single lines of a sheet, "g" for the group of a sheet's generators, "a" for the admission of a
+// sheet, "c" for the checks of a record.
+mod admissions;
 mod groups;
 mod products;
 mod sheets;
 mod single_lines;
 mod written;
 
+use admissions::answer_admission;
+use admissions::answer_checks;
 use groups::answer_group;
 use products::answer_products;
 use sheets::answer_sheet;
@@ -31,6 +35,8 @@ fn answer(kind: u8, change: usize, text: &[u8]) {
         b's' => answer_sheet(text, change),
         b'l' => answer_lines(text, change),
         b'g' => answer_group(text, change),
+        b'a' => answer_admission(text),
+        b'c' => answer_checks(text, change),
         _ => print(b"no kind of case\n"),
     }
 }

@@ -60,7 +60,7 @@ fn print_reading(reading: LinesReading) {
     print(b"\n");
 }
 
-fn print_numbers(code: Code) {
+pub fn print_numbers(code: Code) {
     print(b"record");
     print_number(code.n);
     print_number(code.r);
@@ -70,7 +70,7 @@ fn print_numbers(code: Code) {
 
 // The phases and masks of w, of the first row of each family, and of the last generator, or the first where there is
 // none.
-fn print_rows(code: Code) {
+pub fn print_rows(code: Code) {
     print(b"rows");
     print_row(code.w);
     print_row(code.row(Family::Generator, 0));
@@ -80,7 +80,7 @@ fn print_rows(code: Code) {
     print(b"\n");
 }
 
-fn print_row(row: Pauli) {
+pub fn print_row(row: Pauli) {
     print_number(row.p as usize);
     print_number(row.a as usize);
     print_number(row.b as usize);
