@@ -1,5 +1,5 @@
 -- What a check finds at one logical, from its place, and over all of them.
-use mathlib.Core.Bool.{Bool, not}
+use mathlib.Core.Bool.{Bool}
 use mathlib.Core.List.{List, []}
 use mathlib.Core.Option.{Option}
 use mathlib.Core.Path.{_≡_, refl, ap, ap₂, sym, _∙_}

@@ -1,5 +1,5 @@
--- Whether the logical at a place is at fault: 9 by its syndrome as a mask, which has a bit where a generator detects it,
--- and 10 by how it pairs.
+-- Whether the logical at a place is at fault: 9 by its syndrome as a mask, which is not 0 where a generator
+-- anticommutes with it, and 10 by how it pairs.
 use mathlib.Core.Bool.{not}
 use mathlib.Core.Path.{_≡_, ap, sym, _∙_}
 use Prim.Native.Nat.{ℕ}

@@ -14,11 +14,15 @@ by-check line family told = ap (λ check. refusalAt check line family) (sym told
 
 returns : tie.Need-returns
 unfolding refusalAt
-returns c = by-check _ _ (c .enum-told .given .1)
+returns c =
+    let a = c .before .before .args in
+    by-check (a .line) (a .family) (c .enum-told .given .1)
 
 returns-2 : tie.Need-returns-2
 unfolding refusalAt
-returns-2 c = by-check _ _ (c .enum-told2 .given .1)
+returns-2 c =
+    let a = c .before .before .args in
+    by-check (a .line) (a .family) (c .enum-told2 .given .1)
 
 pub refusal-spec : {M : Type 1} → statement M
 refusal-spec = tie.close (tie.spec (λ c. search needs) (λ c. search needs) returns returns-2)
