@@ -4,8 +4,8 @@ use claim_checks::check_claim;
 use code_record::Code;
 use distance::check_distance;
 use elimination::eliminate;
-use logical_commutation::logicals_commute;
-use logical_pairs::logicals_pair;
+use logical_checks::LogicalCheck;
+use logical_checks::check_logicals;
 use reduced_rows::ReducedRows;
 use refusals::Checked;
 ghost use mathlib.Core.Path.{_≡_};
@@ -17,14 +17,14 @@ ghost use Rattle.claim_checks.specs.Claim.{claimFault};
 ghost use Rattle.distance.specs.Search.{distanceBy};
 
 // 9, then 10.
-fn check_logicals(code: Code) -> Checked
+fn logical_fault(code: Code) -> Checked
     ensures { λ r. ⌜ checkedRefusal r ≡ (limitsFault code then detectedFault code then pairingFault code) ⌝ }
 {
-    let answer = logicals_commute(code);
+    let answer = check_logicals(code, LogicalCheck::Commute);
     let Checked::Passed = answer else {
         return answer;
     };
-    logicals_pair(code)
+    check_logicals(code, LogicalCheck::Pair)
 }
 
 // 11 to 13, then 14.
@@ -47,7 +47,7 @@ pub fn check_code(code: Code, at: usize) -> Checked
     let Checked::Passed = answer else {
         return answer;
     };
-    let logicals = check_logicals(code);
+    let logicals = logical_fault(code);
     let Checked::Passed = logicals else {
         return logicals;
     };

@@ -1,0 +1,2 @@
+pub mod FaultAt
+pub mod Numbers

@@ -1,0 +1,2 @@
+pub mod LogicalChecks
+pub mod Statements

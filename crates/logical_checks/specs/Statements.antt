@@ -1,0 +1,17 @@
+-- What is stated of the checks of a record's logicals.
+use mathlib.Core.List.{[], _∷_}
+use mathlib.Core.Option.{some}
+use mathlib.Core.Path.{_≡_}
+use Rattle.refusals.specs.declared.Refusal.{Refusal}
+use Rattle.refusals.specs.Refusals.{_then_}
+use Rattle.code_record.specs.declared.Code.{Code}
+use Rattle.code_record.specs.Record.{limitsFault}
+use Rattle.sheet.specs.Statements.{Among}
+use Rattle.logical_checks.specs.declared.LogicalCheck.{LogicalCheck}
+use Rattle.logical_checks.specs.LogicalChecks.{checkNumber, logicalFault}
+
+-- RULES, "Refusals": the numbers with which the call refuses.
+abbrev pub LogicalRefusalNumbers : Type 0
+LogicalRefusalNumbers =
+    (check : LogicalCheck) (c : Code) (refusal : Refusal) → (limitsFault c then logicalFault check c) ≡ some refusal
+    → Among (checkNumber check ∷ 15 ∷ []) refusal

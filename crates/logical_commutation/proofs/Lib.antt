@@ -1,2 +1,0 @@
-pub mod MaskFault
-pub mod Numbers
