@@ -32,18 +32,14 @@ abbrev μ-loop : tie.MeasureT-loop
 μ-loop code qubits words₀ at₀ words at = 3 * qubits - at
 
 loop-holds : tie.Need-loop-holds Inv-loop μ-loop
-loop-holds c =
-    let qubits = c .word-qubits .result in
-    none-filled (word (c .before .args .code)) (value qubits) qubits (omega (arith, c .word-qubits .ensures)) _ refl
+loop-holds c = none-filled (omega (arith, c .word-qubits .ensures)) refl
 
 loop-again : tie.Need-loop-again Inv-loop μ-loop
 loop-again c =
     let turn = c .before .before in
     let loop = turn .before .loop in
-    let qubits = turn .before .before .word-qubits .result in
     let code = turn .before .before .before .args .code in
-    one-more (word code) (value qubits) qubits (loop .at) (loop .words) (loop .inv)
-    (omega (arith, turn .loop-test .taken)) (stored (loop .at)) (λ table m. refl) _
+    one-more (loop .inv) (omega (arith, turn .loop-test .taken)) (stored (loop .at)) (λ table m. refl)
     (c .syndrome-mask .ensures ∙ ap (word code) (c .before .letter-for .ensures))
 
 returns : tie.Need-returns Inv-loop μ-loop
@@ -51,10 +47,8 @@ unfolding syndromeWords wordQubits
 returns c =
     let at = c .before in
     let word = word (at .before .before .args .code) in
-    let qubits = at .before .word-qubits in
-    all-filled word (value (qubits .result)) (qubits .result) (at .loop .at) (at .loop .words) (at .loop .inv)
-    (omega (arith, c .loop-test .left))
-    ∙ ap (λ (n : ℕ). value n (wordsOf word n)) (qubits .ensures)
+    all-filled (at .loop .inv) (omega (arith, c .loop-test .left))
+    ∙ ap (λ (n : ℕ). value n (wordsOf word n)) (at .before .word-qubits .ensures)
 
 pub syndrome-words-spec : {M : Type 1} → statement M
 syndrome-words-spec =

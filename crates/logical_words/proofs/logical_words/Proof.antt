@@ -36,20 +36,16 @@ abbrev μ-loop : tie.MeasureT-loop
 loop-holds : tie.Need-loop-holds Inv-loop μ-loop
 unfolding syndromeWords wordQubits
 loop-holds c =
-    let w = c .syndrome-words .result in
-    let e = c .syndrome-words .ensures in
-    none-filled (word (c .before .args .rows)) (value w) (w .qubits)
-    (omega (arith, ap (λ (u : LetterWords). u .qubits) e)) w
-    (ap (λ (u : LetterWords). value w (u .second)) e)
+    let w = c .syndrome-words in
+    none-filled (omega (arith, ap (λ (u : LetterWords). u .qubits) (w .ensures)))
+    (ap (λ (u : LetterWords). value (w .result) (u .second)) (w .ensures))
 
 loop-again : tie.Need-loop-again Inv-loop μ-loop
 loop-again c =
     let turn = c .before .before in
     let loop = turn .before .loop in
-    let w = turn .before .before .syndrome-words .result in
     let rows = turn .before .before .before .args .rows in
-    one-more (word rows) (value w) (w .qubits) (loop .at) (loop .words) (loop .inv)
-    (omega (arith, turn .loop-test .taken)) (stored (loop .at)) (λ table m. refl) _
+    one-more (loop .inv) (omega (arith, turn .loop-test .taken)) (stored (loop .at)) (λ table m. refl)
     (c .remainder-word .ensures ∙ ap (word rows) (c .before .letter-for .ensures))
 
 returns : tie.Need-returns Inv-loop μ-loop
@@ -57,10 +53,8 @@ unfolding logicalWords syndromeWords
 returns c =
     let at = c .before in
     let word = word (at .before .before .args .rows) in
-    let w = at .before .syndrome-words in
-    all-filled word (value (w .result)) (w .result .qubits) (at .loop .at) (at .loop .words) (at .loop .inv)
-    (omega (arith, c .loop-test .left))
-    ∙ ap (λ (u : LetterWords). value u (wordsOf word (u .qubits))) (w .ensures)
+    all-filled (at .loop .inv) (omega (arith, c .loop-test .left))
+    ∙ ap (λ (u : LetterWords). value u (wordsOf word (u .qubits))) (at .before .syndrome-words .ensures)
 
 pub logical-words-spec : {M : Type 1} → statement M
 logical-words-spec =
