@@ -21,31 +21,31 @@ pub record Filling (word : Pauli → ℕ) (put : List ℕ → LetterWords) (n at
   pub within : at ≤ 3 * n
   pub filled : words ≡ put (filledWords (wordFor word n) at)
 
-module _ {word : Pauli → ℕ} {put : List ℕ → LetterWords} {n : ℕ} where
-  pub none-filled : {words : LetterWords} → n ≤ qubitRoom → words ≡ put (replicate wordRoom 0)
-      → Filling word put n 0 words
-  none-filled few zeros = record {
-    few = few;
+pub none-filled : (word : Pauli → ℕ) (put : List ℕ → LetterWords) (n : ℕ) (words : LetterWords)
+    → n ≤ qubitRoom → words ≡ put (replicate wordRoom 0) → Filling word put n 0 words
+none-filled word put n words few zeros = record {
+  few = few;
+  within = omega arith;
+  filled = zeros ∙ ap put (filled-none (wordFor word n));
+}
+
+module _ {word : Pauli → ℕ} {put : List ℕ → LetterWords} {n at : ℕ} {words : LetterWords}
+    (filling : Filling word put n at words) where
+  room : at < 3 * n → at < wordRoom
+  room inside = omega (arith, filling .few)
+
+  pub one-more : at < 3 * n → (store : LetterWords → ℕ → LetterWords)
+      → ((table : List ℕ) (m : ℕ) → store (put table) m ≡ put (set table at m))
+      → {m : ℕ} → m ≡ wordFor word n at → Filling word put n (at + 1) (store words m)
+  one-more inside store stores own = record {
+    few = filling .few;
     within = omega arith;
-    filled = zeros ∙ ap put (filled-none (wordFor word n));
+    filled = ap₂ store (filling .filled) own ∙ stores (filledWords (wordFor word n) at) (wordFor word n at)
+        ∙ ap put (filled-more (wordFor word n) at (room inside));
   }
 
-  module _ {at : ℕ} {words : LetterWords} (filling : Filling word put n at words) where
-    room : at < 3 * n → at < wordRoom
-    room inside = omega (arith, filling .few)
-
-    pub one-more : at < 3 * n → (store : LetterWords → ℕ → LetterWords)
-        → ((table : List ℕ) (m : ℕ) → store (put table) m ≡ put (set table at m))
-        → {m : ℕ} → m ≡ wordFor word n at → Filling word put n (at + 1) (store words m)
-    one-more inside store stores own = record {
-      few = filling .few;
-      within = omega arith;
-      filled = ap₂ store (filling .filled) own ∙ stores (filledWords (wordFor word n) at) (wordFor word n at)
-          ∙ ap put (filled-more (wordFor word n) at (room inside));
-    }
-
-    pub all-filled : 3 * n ≤ at → words ≡ put (wordsOf word n)
-    unfolding wordsOf
-    all-filled behind =
-        let end : at ≡ 3 * n = omega (arith, filling .within) in
-        filling .filled ∙ ap (λ (end : ℕ). put (filledWords (wordFor word n) end)) end
+  pub all-filled : 3 * n ≤ at → words ≡ put (wordsOf word n)
+  unfolding wordsOf
+  all-filled behind =
+      let end : at ≡ 3 * n = omega (arith, filling .within) in
+      filling .filled ∙ ap (λ (end : ℕ). put (filledWords (wordFor word n) end)) end

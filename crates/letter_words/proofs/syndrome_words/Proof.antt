@@ -32,7 +32,9 @@ abbrev μ-loop : tie.MeasureT-loop
 μ-loop code qubits words₀ at₀ words at = 3 * qubits - at
 
 loop-holds : tie.Need-loop-holds Inv-loop μ-loop
-loop-holds c = none-filled (omega (arith, c .word-qubits .ensures)) refl
+loop-holds c =
+    let qubits = c .word-qubits .result in
+    none-filled (word (c .before .args .code)) (value qubits) qubits _ (omega (arith, c .word-qubits .ensures)) refl
 
 loop-again : tie.Need-loop-again Inv-loop μ-loop
 loop-again c =

@@ -36,9 +36,11 @@ abbrev μ-loop : tie.MeasureT-loop
 loop-holds : tie.Need-loop-holds Inv-loop μ-loop
 unfolding syndromeWords wordQubits
 loop-holds c =
-    let w = c .syndrome-words in
-    none-filled (omega (arith, ap (λ (u : LetterWords). u .qubits) (w .ensures)))
-    (ap (λ (u : LetterWords). value (w .result) (u .second)) (w .ensures))
+    let w = c .syndrome-words .result in
+    let syndromes = c .syndrome-words .ensures in
+    none-filled (word (c .before .args .rows)) (value w) (w .qubits) w
+    (omega (arith, ap (λ (u : LetterWords). u .qubits) syndromes))
+    (ap (λ (u : LetterWords). value w (u .second)) syndromes)
 
 loop-again : tie.Need-loop-again Inv-loop μ-loop
 loop-again c =
