@@ -1,3 +1,4 @@
+pub mod Filling
 pub mod Singles
 pub mod Sums
 pub mod Tables

@@ -12,10 +12,10 @@ ghost use mathlib.Core.Path.{_≡_};
 ghost use Prim.Native.Nat.{min};
 ghost use Rattle.letters.specs.Letters.{struckLetter};
 ghost use Rattle.letter_sums.specs.Sums.{qubitRoom};
-ghost use Rattle.letter_words.specs.Words.{singleLetter, syndromeWords};
+ghost use Rattle.letter_words.specs.Words.{singleLetter, letterFor, syndromeWords};
 
 // The letter with a number, 0, 1, 2 for X, Y, Z, on one qubit, with sign +. Places count from 0, as bits do.
-pub fn single_letter(place: usize, number: usize) -> Pauli
+fn single_letter(place: usize, number: usize) -> Pauli
     ensures { λ r. ⌜ r ≡ singleLetter place (struckLetter number) ⌝ }
 {
     if place < 32 {
@@ -23,6 +23,17 @@ pub fn single_letter(place: usize, number: usize) -> Pauli
         return Pauli::signed(Sign::Plus, letter.x_bit() << place, letter.z_bit() << place);
     }
     Pauli::identity()
+}
+
+// The letter whose word stands at a place: those of the last qubit come first. Behind the words of all qubits there are
+// none, and the answer is a letter of the first qubit.
+pub fn letter_for(qubits: usize, at: usize) -> Pauli
+    ensures { λ r. ⌜ r ≡ letterFor qubits at ⌝ }
+{
+    if at / 3 < qubits {
+        return single_letter(qubits - 1 - at / 3, at % 3);
+    }
+    single_letter(0, at % 3)
 }
 
 // How many of n qubits have words.
@@ -47,7 +58,7 @@ pub fn syndrome_words(code: Code) -> LetterWords
     };
     let mut at: usize = 0;
     while at < 3 * qubits {
-        words.first[at] = syndrome_mask(code, single_letter(qubits - 1 - at / 3, at % 3));
+        words.first[at] = syndrome_mask(code, letter_for(qubits, at));
         at += 1;
     }
     words

@@ -2,7 +2,7 @@
 // the canonical generators leave of it.
 use code_record::Code;
 use letter_sums::LetterWords;
-use letter_words::single_letter;
+use letter_words::letter_for;
 use letter_words::syndrome_words;
 use pauli::Pauli;
 use reduced_rows::ReducedRows;
@@ -27,7 +27,7 @@ pub fn logical_words(code: Code, rows: ReducedRows) -> LetterWords
     let qubits = words.qubits;
     let mut at: usize = 0;
     while at < 3 * qubits {
-        words.second[at] = remainder_word(rows, single_letter(qubits - 1 - at / 3, at % 3));
+        words.second[at] = remainder_word(rows, letter_for(qubits, at));
         at += 1;
     }
     words

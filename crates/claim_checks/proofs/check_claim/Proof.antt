@@ -1,11 +1,13 @@
 -- The checks of w in their order: the first that finds a fault answers.
-use mathlib.Core.Bool.{false, not}
+use mathlib.Core.Bool.{Bool, true, false, not}
 use mathlib.Core.Path.{_≡_, refl, ap, sym, _∙_}
 use lib.Dec.{eqb}
 use Rattle.pauli.specs.Product.{weight}
 use Rattle.pauli.specs.Syndrome.{syndromeMask}
 use Rattle.code_record.specs.Record.{generators}
+use Rattle.refusals.specs.declared.Refusal.{Refusal}
 use Rattle.refusals.specs.Refusals.{refuseIf, _then_}
+use Rattle.claim_checks.specs.Claim.{claimFault}
 use Rattle.claim_checks.proofs.ClaimFaults.{claim-found}
 use borrow.Author.Needs.{needs}
 use borrow.Author.Tests.{eq-eqb, ne-eqb}
@@ -17,19 +19,35 @@ start c = c .before
 
 -- ---- what each test tells
 
-right-weight : (c : tie.Else1) → let w = c .before .before in
-    not (eqb (weight (start w .args .code .w)) (start w .args .code .d)) ≡ false
+by-weight : (c : tie.After-weight) → let code = start c .args .code in
+    not (eqb (weight (code .w)) (code .d)) ≡ not (eqb (c .weight .result) (code .d))
+by-weight c = ap (λ m. not (eqb m (start c .args .code .d))) (sym (c .weight .ensures))
+
+right-weight : (c : tie.Else1) → let code = start (c .before .before) .args .code in
+    not (eqb (weight (code .w)) (code .d)) ≡ false
 right-weight c =
     let w = c .before .before in
-    let d = start w .args .code .d in
-    ap (λ m. not (eqb m d)) (sym (w .weight .ensures)) ∙ ap not (eq-eqb (w .weight .result) d (c .if1 .left))
+    by-weight w ∙ ap not (eq-eqb (w .weight .result) (start w .args .code .d) (c .if1 .left))
+
+by-mask : (c : tie.After-syndrome-mask) → let code = start (c .before .before .before) .args .code in
+    not (eqb (syndromeMask (generators code) (code .w)) 0) ≡ not (eqb (c .syndrome-mask .result) 0)
+by-mask c = ap (λ m. not (eqb m 0)) (sym (c .syndrome-mask .ensures))
 
 undetected : (c : tie.Else2) → let code = start (c .before .before .before .before) .args .code in
     not (eqb (syndromeMask (generators code) (code .w)) 0) ≡ false
-undetected c =
-    let told = c .before in
-    ap (λ m. not (eqb m 0)) (sym (told .syndrome-mask .ensures))
-    ∙ ap not (eq-eqb (told .syndrome-mask .result) 0 (c .if2 .left))
+undetected c = by-mask (c .before) ∙ ap not (eq-eqb (c .before .syndrome-mask .result) 0 (c .if2 .left))
+
+-- The third test alone is left, whichever way it goes.
+by-rows : (c : tie.After-contains) (contained : Bool) → c .contains .result ≡ contained
+    → let a = start (c .before .before .before .before .before) .args in
+    refuseIf contained (Refusal.ClaimedInGroup (a .at)) ≡ claimFault (a .at) (a .code) (a .reduced)
+unfolding refuseIf _then_
+by-rows c contained told =
+    let clean = c .before in
+    let weighed = clean .before .before in
+    let a = start (weighed .before .before) .args in
+    claim-found (a .at) (a .code) (a .reduced) (right-weight weighed) (undetected clean)
+    (sym (c .contains .ensures) ∙ told)
 
 -- ---- the needs
 
@@ -38,9 +56,8 @@ unfolding refuseIf _then_
 returns c =
     let w = c .before .before in
     let a = start w .args in
-    let wrong = ap (λ m. not (eqb m (a .code .d))) (sym (w .weight .ensures))
-    ∙ ap not (ne-eqb (w .weight .result) (a .code .d) (c .if1 .taken)) in
-    claim-found (a .at) (a .code) (a .reduced) wrong refl refl
+    claim-found (a .at) (a .code) (a .reduced)
+    (by-weight w ∙ ap not (ne-eqb (w .weight .result) (a .code .d) (c .if1 .taken))) refl refl
 
 returns-2 : tie.Need-returns-2
 unfolding refuseIf _then_
@@ -48,27 +65,16 @@ returns-2 c =
     let told = c .before in
     let weighed = told .before in
     let a = start (weighed .before .before) .args in
-    let wrong = ap (λ m. not (eqb m 0)) (sym (told .syndrome-mask .ensures))
-    ∙ ap not (ne-eqb (told .syndrome-mask .result) 0 (c .if2 .taken)) in
-    claim-found (a .at) (a .code) (a .reduced) (right-weight weighed) wrong refl
+    claim-found (a .at) (a .code) (a .reduced) (right-weight weighed)
+    (by-mask told ∙ ap not (ne-eqb (told .syndrome-mask .result) 0 (c .if2 .taken))) refl
 
 returns-3 : tie.Need-returns-3
-unfolding refuseIf _then_
-returns-3 c =
-    let clean = c .before .before in
-    let weighed = clean .before .before in
-    let a = start (weighed .before .before) .args in
-    claim-found (a .at) (a .code) (a .reduced) (right-weight weighed) (undetected clean)
-    (sym (c .before .contains .ensures) ∙ c .if3 .taken)
+unfolding refuseIf
+returns-3 c = by-rows (c .before) true (c .if3 .taken)
 
 returns-4 : tie.Need-returns-4
-unfolding refuseIf _then_
-returns-4 c =
-    let clean = c .before .before in
-    let weighed = clean .before .before in
-    let a = start (weighed .before .before) .args in
-    claim-found (a .at) (a .code) (a .reduced) (right-weight weighed) (undetected clean)
-    (sym (c .before .contains .ensures) ∙ c .if3 .left)
+unfolding refuseIf
+returns-4 c = by-rows (c .before) false (c .if3 .left)
 
 pub check-claim-spec : {M : Type 1} → statement M
 check-claim-spec =
