@@ -17,7 +17,7 @@ ghost use Rattle.claim_checks.specs.Claim.{claimFault};
 ghost use Rattle.distance.specs.Search.{distanceBy};
 
 // 9, then 10.
-fn logical_fault(code: Code) -> Checked
+fn commute_and_pair(code: Code) -> Checked
     ensures { λ r. ⌜ checkedRefusal r ≡ (limitsFault code then detectedFault code then pairingFault code) ⌝ }
 {
     let answer = check_logicals(code, LogicalCheck::Commute);
@@ -28,7 +28,7 @@ fn logical_fault(code: Code) -> Checked
 }
 
 // 11 to 13, then 14.
-fn check_weights(code: Code, reduced: ReducedRows, at: usize) -> Checked
+fn claim_and_distance(code: Code, reduced: ReducedRows, at: usize) -> Checked
     ensures { λ r. ⌜ checkedRefusal r ≡ (claimFault at code reduced then distanceBy at code reduced) ⌝ }
 {
     let answer = check_claim(code, reduced, at);
@@ -47,9 +47,9 @@ pub fn check_code(code: Code, at: usize) -> Checked
     let Checked::Passed = answer else {
         return answer;
     };
-    let logicals = logical_fault(code);
+    let logicals = commute_and_pair(code);
     let Checked::Passed = logicals else {
         return logicals;
     };
-    check_weights(code, generators.reduced, at)
+    claim_and_distance(code, generators.reduced, at)
 }

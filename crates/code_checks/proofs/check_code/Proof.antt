@@ -15,16 +15,16 @@ returns-2 c =
     let told = c .before .before .before in
     let a = told .before .before .before .args in
     logicals-refused (a .at) (a .code) (told .before .before .eliminate .ensures) (told .enum-told .given .1)
-    (c .before .before .logical-fault .result) (c .before .before .logical-fault .ensures) (c .enum-told4 .given .1)
+    (c .before .before .commute-and-pair .result) (c .before .before .commute-and-pair .ensures) (c .enum-told4 .given .1)
 
 returns-3 : tie.Need-returns-3
 returns-3 c =
     let second = c .before in
     let told = second .before .before .before in
     let a = told .before .before .before .args in
-    c .check-weights .ensures
+    c .claim-and-distance .ensures
     ∙ weights-decide (a .at) (a .code) (told .before .before .eliminate .ensures) (told .enum-told .given .1)
-    (second .before .before .logical-fault .result) (second .before .before .logical-fault .ensures)
+    (second .before .before .commute-and-pair .result) (second .before .before .commute-and-pair .ensures)
     (second .enum-told3 .given .1)
 
 pub check-code-spec : {M : Type 1} → statement M

@@ -5,8 +5,8 @@ use Rattle.admission.specs.Logicals.{detectedFault, pairingFault}
 use Rattle.logical_checks.specs.LogicalChecks.{logicalFault}
 use borrow.Author.Needs.{needs}
 use Rattle.code_checks.proofs.Sequence.{refused-first, none-told, then-assoc, asked-again}
-use Rattle.code_checks.proofs.logical_fault.Statement.{statement}
-use Rattle.code_checks.proofs.logical_fault.Tie as tie
+use Rattle.code_checks.proofs.commute_and_pair.Statement.{statement}
+use Rattle.code_checks.proofs.commute_and_pair.Tie as tie
 
 returns : tie.Need-returns
 unfolding logicalFault
@@ -26,7 +26,7 @@ returns-2 c =
     ∙ asked-again (limitsFault code) (detectedFault code) (pairingFault code)
     (none-told _ (pairingFault code) (first .ensures) (told .enum-told .given .1))
 
-pub logical-fault-spec : {M : Type 1} → statement M
-logical-fault-spec =
+pub commute-and-pair-spec : {M : Type 1} → statement M
+commute-and-pair-spec =
     tie.close
     (tie.spec (λ c κs. search needs) (λ c. search needs) (λ c. search needs) returns (λ c κs. search needs) returns-2)

@@ -3,8 +3,8 @@ use mathlib.Core.Path.{_∙_}
 use Rattle.distance.specs.Search.{distanceBy}
 use borrow.Author.Needs.{needs}
 use Rattle.code_checks.proofs.Sequence.{refused-first, passed-first}
-use Rattle.code_checks.proofs.check_weights.Statement.{statement}
-use Rattle.code_checks.proofs.check_weights.Tie as tie
+use Rattle.code_checks.proofs.claim_and_distance.Statement.{statement}
+use Rattle.code_checks.proofs.claim_and_distance.Tie as tie
 
 returns : tie.Need-returns
 returns c =
@@ -20,7 +20,7 @@ returns-2 c =
     ∙ passed-first _ (distanceBy (a .at) (a .code) (a .reduced)) (told .before .before .check-claim .ensures)
     (told .enum-told .given .1)
 
-pub check-weights-spec : {M : Type 1} → statement M
-check-weights-spec =
+pub claim-and-distance-spec : {M : Type 1} → statement M
+claim-and-distance-spec =
     tie.close
     (tie.spec (λ c κs. search needs) (λ c. search needs) (λ c. search needs) returns (λ c κs. search needs) returns-2)
