@@ -13,6 +13,7 @@ use Rattle.admission.specs.Logicals.{logicals, pairsWrongly, detectedFault, pai
 use Rattle.logical_checks.specs.declared.LogicalCheck.{LogicalCheck}
 use Rattle.logical_checks.specs.declared.LogicalCheck.the-variants.{Commute, Pair}
 
+-- RULES, "Refusals": the number with which each refuses.
 unfoldable pub checkNumber : LogicalCheck → ℕ
 checkNumber Commute = 9
 checkNumber Pair = 10
@@ -22,7 +23,7 @@ unfoldable pub logicalFault : LogicalCheck → Code → Option Refusal
 logicalFault Commute = detectedFault
 logicalFault Pair = pairingFault
 
--- What each asks of the logical at a place, and its refusal.
+-- Whether each finds fault with the logical at a place, and how it then refuses.
 unfoldable pub faultyAt : LogicalCheck → Code → ℕ → Bool
 faultyAt Commute c place = anyOf (anticommutes (getD (logicals c) place identity)) (generators c)
 faultyAt Pair c place =
