@@ -15,7 +15,8 @@ returns-2 c =
     let told = c .before .before .before in
     let a = told .before .before .before .args in
     logicals-refused (a .at) (a .code) (told .before .before .eliminate .ensures) (told .enum-told .given .1)
-    (c .before .before .commute-and-pair .result) (c .before .before .commute-and-pair .ensures) (c .enum-told4 .given .1)
+    (c .before .before .commute-and-pair .result) (c .before .before .commute-and-pair .ensures)
+    (c .enum-told4 .given .1)
 
 returns-3 : tie.Need-returns-3
 returns-3 c =
