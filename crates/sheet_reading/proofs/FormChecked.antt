@@ -8,10 +8,9 @@ use native.Mathlib.Omega.{arith}
 use Rattle.code_record.specs.declared.LinesReading.{LinesReading}
 use Rattle.code_record.specs.Record.{limitsFault, withinLimits}
 use Rattle.code_record.proofs.Limits.{within-later}
-use Rattle.refusals.specs.declared.Checked.{Checked}
 use Rattle.refusals.specs.declared.Lines.{Lines}
 use Rattle.refusals.specs.declared.Refusal.{Refusal}
-use Rattle.refusals.specs.Refusals.{checkedRefusal, _then_}
+use Rattle.refusals.specs.Refusals.{_then_}
 use Rattle.sheet.specs.Reader.{Parsed, SheetRead, got, stop, readForm, answered, formReading}
 use Rattle.sheet.proofs.ReadBack.{reads-are-lawful}
 use Rattle.admission.specs.Admission.{codeFault, refusedReading, readingOf, checked, readSheet}
@@ -28,18 +27,16 @@ module _ (s : List ℕ) (form : LinesReading) where
   refused-by (got q rest) e told = absurd (let z : _≡_ {A = ℕ} 0 1 = cc (ap (λ x. x .answer) e) in omega arith)
   refused-by (stop refusal) e told = ap refusedReading (cc (ap (λ x. x .answer) e))
 
-  decided-by : (p : Parsed SheetRead) {used : ℕ} (result : Checked) → form ≡ answered s p
-      → form .answer ≡ Lines.Read used
+  decided-by : (p : Parsed SheetRead) {used : ℕ} → form ≡ answered s p → form .answer ≡ Lines.Read used
       → ((q : SheetRead) (rest : List ℕ) → p ≡ got q rest → withinLimits (q .code) ≡ true)
-      → checkedRefusal result ≡ (limitsFault (form .code) then codeFault (form .«claim_at») (form .code))
-      → readingOf (form .code) (checkedRefusal result) ≡ checked p
+      → readingOf (form .code) (limitsFault (form .code) then codeFault (form .«claim_at») (form .code)) ≡ checked p
   unfolding answered checked
-  decided-by (got q rest) result e told within known =
+  decided-by (got q rest) e told within =
       let code = ap (λ x. x .code) e in
       ap₂ readingOf code
-      (known ∙ ap₂ (λ c at. limitsFault c then codeFault at c) code (ap (λ x. x .«claim_at») e)
+      (ap₂ (λ c at. limitsFault c then codeFault at c) code (ap (λ x. x .«claim_at») e)
       ∙ sym (within-later (q .code) (codeFault (q .claimAt) (q .code)) (within q rest refl)))
-  decided-by (stop refusal) result e told within known =
+  decided-by (stop refusal) e told within =
       absurd (let z : _≡_ {A = ℕ} 0 1 = cc (ap (λ x. x .answer) e) in omega arith)
 
   module _ (known : form ≡ formReading s) where
@@ -47,8 +44,7 @@ module _ (s : List ℕ) (form : LinesReading) where
     unfolding formReading readSheet
     form-refused told = refused-by (readForm s) known told
 
-    pub checks-decide : {used : ℕ} (result : Checked) → form .answer ≡ Lines.Read used
-        → checkedRefusal result ≡ (limitsFault (form .code) then codeFault (form .«claim_at») (form .code))
-        → readingOf (form .code) (checkedRefusal result) ≡ readSheet s
+    pub checks-decide : {used : ℕ} → form .answer ≡ Lines.Read used
+        → readingOf (form .code) (limitsFault (form .code) then codeFault (form .«claim_at») (form .code)) ≡ readSheet s
     unfolding formReading readSheet
-    checks-decide result told = decided-by (readForm s) result known told (read-within s)
+    checks-decide told = decided-by (readForm s) known told (read-within s)

@@ -1,13 +1,12 @@
 -- Records that were read are within limits: of the three readings each has its record from the lines of a sheet.
 use mathlib.Core.Bool.{true, not}
-use mathlib.Core.List.{List, []}
+use mathlib.Core.List.{List}
 use mathlib.Core.Option.{Option, none, some}
-use mathlib.Core.Path.{_≡_, refl, ap, sym, _∙_}
+use mathlib.Core.Path.{_≡_, refl, ap}
 use Prim.Native.Nat.{ℕ}
 use native.Mathlib.Omega.{arith}
 use Rattle.code_record.specs.declared.Code.{Code}
 use Rattle.code_record.specs.Record.{limitsFault, withinLimits}
-use Rattle.code_record.proofs.Limits.{within-later}
 use Rattle.refusals.specs.declared.Lines.{Lines}
 use Rattle.refusals.specs.declared.Refusal.{Refusal}
 use Rattle.refusals.specs.Refusals.{refuseIf}

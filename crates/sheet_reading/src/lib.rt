@@ -8,7 +8,9 @@ use refusals::Lines;
 use refusals::Refusal;
 use sheet_end::read_form;
 ghost use mathlib.Core.Path.{_≡_};
-ghost use Rattle.admission.specs.Admission.{refusedReading, readSheet};
+ghost use Rattle.code_record.specs.Record.{limitsFault};
+ghost use Rattle.refusals.specs.Refusals.{_then_};
+ghost use Rattle.admission.specs.Admission.{codeFault, refusedReading, readingOf, readSheet};
 
 // Beside a refusal stands the empty record.
 fn refused(refusal: Refusal) -> Reading
@@ -17,6 +19,19 @@ fn refused(refusal: Refusal) -> Reading
     Reading {
         answer: Admission::Refused(refusal),
         code: Code::empty(),
+    }
+}
+
+// What the checks make of a record whose w stands on the line `at`.
+fn judged(code: Code, at: usize) -> Reading
+    ensures { λ r. ⌜ r ≡ readingOf code (limitsFault code then codeFault at code) ⌝ }
+{
+    match check_code(code, at) {
+        Checked::Passed => Reading {
+            answer: Admission::Admitted,
+            code,
+        },
+        Checked::Refused(refusal) => refused(refusal),
     }
 }
 
@@ -30,11 +45,5 @@ pub fn read_sheet(s: &[u8]) -> Reading
         return refused(refusal);
     }
     let code = form.code;
-    match check_code(code, form.claim_at) {
-        Checked::Passed => Reading {
-            answer: Admission::Admitted,
-            code,
-        },
-        Checked::Refused(refusal) => refused(refusal),
-    }
+    judged(code, form.claim_at)
 }

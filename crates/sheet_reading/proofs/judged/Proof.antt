@@ -1,0 +1,29 @@
+-- What the checks answer is the fault by which the reading goes.
+use mathlib.Core.Path.{_≡_, ap, sym, _∙_}
+use Rattle.code_record.specs.Record.{limitsFault}
+use Rattle.refusals.specs.declared.Checked.{Checked}
+use Rattle.refusals.specs.Refusals.{checkedRefusal, _then_}
+use Rattle.admission.specs.Admission.{codeFault, admitted, readingOf}
+use borrow.Author.Needs.{needs}
+use Rattle.sheet_reading.proofs.judged.Statement.{statement}
+use Rattle.sheet_reading.proofs.judged.Tie as tie
+
+answered : (c : tie.After-check-code) {answer : Checked} → c .check-code .result ≡ answer
+    → let a = c .before .args in
+    readingOf (a .code) (checkedRefusal answer)
+    ≡ readingOf (a .code) (limitsFault (a .code) then codeFault (a .at) (a .code))
+answered c told = ap (readingOf (c .before .args .code)) (ap checkedRefusal (sym told) ∙ c .check-code .ensures)
+
+returns : tie.Need-returns
+unfolding readingOf admitted
+returns c = answered (c .before .before) (c .enum-told .given .1)
+
+returns-2 : tie.Need-returns-2
+unfolding readingOf
+returns-2 c =
+    c .refused .ensures ∙ answered (c .before .before .before .before) (c .before .before .refusal .given .1)
+
+pub judged-spec : {M : Type 1} → statement M
+judged-spec =
+    tie.close
+    (tie.spec (λ c κs. search needs) (λ c. search needs) (λ c. search needs) (λ c κs. search needs) returns returns-2)
