@@ -117,7 +117,7 @@ fn lightest(
     'search: loop {
         for weight in 1..most + 1 {
             let found = completion(first, second, qubits, weight, want, shun);
-            if let Found::At { a, b } = found {
+            if let Found::At { .. } = found {
                 break 'search found;
             }
         }

@@ -29,7 +29,7 @@ fn found_in_walks(most: usize, count: u32) -> u64 {
     let words = random_words();
     let mut found: u64 = 0;
     for want in 0..count {
-        if let Found::At { a, b } = search::earliest(words, most, want, 0) {
+        if let Found::At { .. } = search::earliest(words, most, want, 0) {
             found = found % 65536 + 1;
         }
     }

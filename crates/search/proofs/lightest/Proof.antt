@@ -43,23 +43,24 @@ lightest-spec =
     (λ c κs.
     let room = c .before .before .before .before .before .pre .1 in
     (c .before .loop .inv .0, (room .0, (room .1 .0, room .1 .1 .0))))
-    (λ c. search needs)  -- enum-known-found
     (λ c. search needs)  -- enum-told
+    (λ c. search needs)  -- enum-told-2
     (λ c. search needs)  -- add-weight
     (λ c. search needs)  -- loop-less
     -- loop-again
     (λ c.
     let call = c .before .before in
     let loop = call .before .before in
-    let none-more = found-nothing _ (sym (c .enum-told .given .1) ∙ call .completion .ensures) in
+    let none-more = found-nothing _ (sym (c .enum-told2 .given .1) ∙ call .completion .ensures) in
     (omega arith, (omega arith, below-more _ _ (loop .loop .inv .1 .1) none-more)))
     -- returns
     (λ c.
-    let call = c .before .before .before in
+    let call = c .before .before in
     let loop = call .before .before in
     let a = loop .before .before .before .before .args in
-    let told = found-some _ _ _ (sym (c .before .found .given .1) ∙ call .completion .ensures) in
-    found-again _ _ _ _ told
+    let told = found-some _ _ _ (sym (c .enum-told .given .1) ∙ call .completion .ensures) in
+    c .enum-told .given .1
+    ∙ found-again _ _ _ _ told
     (up-to-some (a .first .now) (a .second .now) (a .qubits) (a .most) (a .want) (a .shun) (loop .loop .weight)
     (told .string) (omega arith) (loop .loop .inv .1 .1) (told .told)))
     -- returns-2
