@@ -5,3 +5,4 @@ pub mod Words
 pub mod Scanned
 pub mod ArrayLengths
 pub mod Additive
+pub mod Examples
