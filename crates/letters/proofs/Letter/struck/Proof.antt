@@ -1,7 +1,6 @@
 -- The arm taken gives the number, and it names the letter.
 use mathlib.Core.Path.{_≡_, refl, ap, sym}
 use Prim.Native.Nat.{ℕ, zero, suc}
-use Rattle.letters.specs.declared.Letter.{Letter}
 use Rattle.letters.specs.declared.Letter.the-variants.{Z}
 use Rattle.letters.specs.Letters.{struckLetter}
 use Rattle.letters.proofs.Letter.struck.Statement.{statement}
