@@ -1,11 +1,14 @@
 //! What the test program has to write for a case.
 
+mod decodings;
+
 use crate::admission::{self, Fault};
 use crate::cases::{Case, Kind};
 use crate::group::member;
 use crate::product::{commute, product};
 use crate::record::{write_number, write_numbers, Pauli, Record};
 use crate::sheet::{self, Letter, Refusal, Row, Sheet};
+use std::fmt::Display;
 
 pub fn answer(case: &Case) -> Vec<u8> {
     match case.kind {
@@ -15,6 +18,8 @@ pub fn answer(case: &Case) -> Vec<u8> {
         Kind::Group => group(&case.text, case.change),
         Kind::Admission => admission(&case.text).into(),
         Kind::Checks => checks(&case.text, case.change).into(),
+        Kind::Decodings => decodings::decodings(&case.text, case.change),
+        Kind::Corrections => decodings::corrections(&case.text),
     }
 }
 
@@ -205,7 +210,10 @@ fn pair(errors: &[Vec<Letter>; 2]) -> String {
 }
 
 /// What a writer does with a byte less than its lines take, with as many, and with three more.
-fn written_thrice(used: usize, write: impl Fn(&mut [u8]) -> Result<usize, Refusal>) -> Vec<u8> {
+fn written_thrice<T: Display>(
+    used: usize,
+    write: impl Fn(&mut [u8]) -> Result<T, Refusal>,
+) -> Vec<u8> {
     let rooms = [
         ("short", used.saturating_sub(1)),
         ("exact", used),
@@ -217,10 +225,10 @@ fn written_thrice(used: usize, write: impl Fn(&mut [u8]) -> Result<usize, Refusa
 
 /// What a writer answers, and its buffer of so many bytes. They are dots before, so that it can be seen what was
 /// written: up to the last byte that is no dot, and how many dots follow.
-fn written(
+fn written<T: Display>(
     name: &str,
     room: usize,
-    write: impl Fn(&mut [u8]) -> Result<usize, Refusal>,
+    write: impl Fn(&mut [u8]) -> Result<T, Refusal>,
 ) -> Vec<u8> {
     let mut buffer = vec![b'.'; room];
     let answer = format!("{name} {}\n", value(write(&mut buffer).as_ref()));
@@ -231,7 +239,7 @@ fn written(
 }
 
 /// A value, or a refusal with its number, its line, and its family where it has one.
-fn value(answer: Result<impl ToString, &Refusal>) -> String {
+fn value(answer: Result<impl Display, &Refusal>) -> String {
     match answer {
         Ok(value) => value.to_string(),
         Err(refusal) => {

@@ -6,7 +6,8 @@
 const HEADER: usize = 10;
 
 /// Products of rows; a sheet that is read and written; single lines of a sheet; the group of a sheet's generators; the
-/// admission of a sheet; the checks of a record.
+/// admission of a sheet; the checks of a record; syndromes and corrections of a record; the corrections of errors on an
+/// admitted code. Of the last two the text has questions before the sheet.
 #[derive(Clone, Copy, PartialEq, Eq, Hash, Debug)]
 pub enum Kind {
     Products,
@@ -15,16 +16,20 @@ pub enum Kind {
     Group,
     Admission,
     Checks,
+    Decodings,
+    Corrections,
 }
 
 impl Kind {
-    const ALL: [Kind; 6] = [
+    const ALL: [Kind; 8] = [
         Kind::Products,
         Kind::Sheet,
         Kind::Lines,
         Kind::Group,
         Kind::Admission,
         Kind::Checks,
+        Kind::Decodings,
+        Kind::Corrections,
     ];
 
     fn letter(self) -> char {
@@ -35,6 +40,8 @@ impl Kind {
             Kind::Group => 'g',
             Kind::Admission => 'a',
             Kind::Checks => 'c',
+            Kind::Decodings => 'd',
+            Kind::Corrections => 'e',
         }
     }
 }

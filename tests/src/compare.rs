@@ -1,7 +1,8 @@
 //! The built test program beside this implementation, on all cases.
 
 use crate::answers::answer;
-use crate::cases::Case;
+use crate::cases::{Case, Kind};
+use crate::guarantee::errors_corrected;
 use crate::parts;
 use std::io::Write;
 use std::path::Path;
@@ -16,12 +17,14 @@ const SHOWN: usize = 5;
 
 pub fn compare(program: &Path) -> ExitCode {
     let cases = parts::all();
-    let mut failed = 0;
+    let (mut failed, mut corrected) = (0, 0);
     for batch in cases.chunks(BATCH) {
-        if answers_differ(program, batch).is_some() {
-            failed += differing(program, batch, SHOWN.saturating_sub(failed));
+        match answers(program, batch) {
+            Ok(count) => corrected += count,
+            Err(_) => failed += differing(program, batch, SHOWN.saturating_sub(failed)),
         }
     }
+    println!("{corrected} errors are corrected up to a member of the group");
     println!("{} passed, {failed} failed", cases.len() - failed);
     ExitCode::from(u8::from(failed > 0))
 }
@@ -31,7 +34,7 @@ pub fn compare(program: &Path) -> ExitCode {
 fn differing(program: &Path, cases: &[Case], shown: usize) -> usize {
     let differences: Vec<(&Case, Output)> = cases
         .iter()
-        .filter_map(|case| Some((case, answers_differ(program, slice::from_ref(case))?)))
+        .filter_map(|case| Some((case, answers(program, slice::from_ref(case)).err()?)))
         .collect();
     for (case, output) in differences.iter().take(shown) {
         println!("--- the case\n{}", text(&case.bytes()));
@@ -59,12 +62,28 @@ fn text(bytes: &[u8]) -> String {
     bytes.escape_ascii().to_string().replace("\\n", "\n")
 }
 
-/// What the program gives, where that is not the answers to the cases.
-fn answers_differ(program: &Path, cases: &[Case]) -> Option<Output> {
+/// How many errors the program corrects, where it gives the answers to the cases and the guarantee holds of what it
+/// gives; else what it gives.
+fn answers(program: &Path, cases: &[Case]) -> Result<usize, Output> {
     let input: Vec<u8> = cases.iter().flat_map(Case::bytes).collect();
-    let answers: Vec<u8> = cases.iter().flat_map(answer).collect();
+    let answers: Vec<Vec<u8>> = cases.iter().map(answer).collect();
     let output = run(program, input);
-    (!output.status.success() || output.stdout != answers).then_some(output)
+    if !output.status.success() || output.stdout != answers.concat() {
+        return Err(output);
+    }
+    let mut corrected = 0;
+    let mut rest = &output.stdout[..];
+    for (case, answer) in cases.iter().zip(answers) {
+        let (given, behind) = rest.split_at(answer.len());
+        rest = behind;
+        if case.kind == Kind::Corrections {
+            match errors_corrected(&case.text, given) {
+                Some(count) => corrected += count,
+                None => return Err(output),
+            }
+        }
+    }
+    Ok(corrected)
 }
 
 fn run(program: &Path, input: Vec<u8>) -> Output {

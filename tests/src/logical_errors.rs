@@ -4,11 +4,9 @@
 use crate::group;
 use crate::record::Pauli;
 use crate::sheet::{weight, Letter, Row, Sheet};
+use crate::strings::{first_of_weight, letters_commute, sorted_strings, string_count, FEW_QUBITS};
 use std::collections::HashSet;
 use std::sync::OnceLock;
-
-/// The most qubits of which all strings are sorted.
-const FEW_QUBITS: usize = 6;
 
 /// The most generators of which all products are listed.
 const FEW_GENERATORS: usize = 12;
@@ -31,41 +29,11 @@ pub fn earliest(sheet: &Sheet, most: usize) -> Option<Vec<Letter>> {
     })
 }
 
-/// How many strings of n letters have at most this weight.
-fn string_count(n: usize, most: usize) -> u64 {
-    let mut of_weight = 1;
-    let mut count = 1;
-    for v in 1..=most.min(n) {
-        of_weight = of_weight * 3 * (n - v + 1) as u64 / v as u64;
-        count += of_weight;
-    }
-    count
-}
-
 fn by_sorting(sheet: &Sheet, most: usize) -> Option<Vec<Letter>> {
     let code = Undetected::of(&sheet.generators);
     let strings = sorted_strings(sheet.n).iter();
     let mut light = strings.take_while(|letters| weight(letters) <= most);
     light.find(|letters| code.has_logical(letters)).cloned()
-}
-
-/// All strings of n letters: the lighter ones first, and those of one weight by their letters.
-fn sorted_strings(n: usize) -> &'static [Vec<Letter>] {
-    static SORTED: [OnceLock<Vec<Vec<Letter>>>; FEW_QUBITS + 1] =
-        [const { OnceLock::new() }; FEW_QUBITS + 1];
-    SORTED[n].get_or_init(|| {
-        let mut strings = all_strings(n);
-        strings.sort_by_key(|letters| (weight(letters), letters.clone()));
-        strings
-    })
-}
-
-fn all_strings(n: usize) -> Vec<Vec<Letter>> {
-    if n == 0 {
-        return vec![Vec::new()];
-    }
-    let longer = |letters: Vec<Letter>| Letter::ALL.map(|last| [&letters[..], &[last]].concat());
-    all_strings(n - 1).into_iter().flat_map(longer).collect()
 }
 
 fn by_strings(sheet: &Sheet, most: usize) -> Option<Vec<Letter>> {
@@ -74,28 +42,6 @@ fn by_strings(sheet: &Sheet, most: usize) -> Option<Vec<Letter>> {
     let of_weight = |v| first_of_weight(&mut letters, 0, v, &|letters| code.has_logical(letters));
     let found = (0..=most.min(sheet.n)).any(of_weight);
     found.then_some(letters)
-}
-
-/// Goes through the strings that are as they are up to a place and have so many letters other than I from there on.
-/// Stops where the test holds; else there are only letters I from that place on afterwards.
-fn first_of_weight(
-    letters: &mut [Letter],
-    at: usize,
-    weight: usize,
-    test: &impl Fn(&[Letter]) -> bool,
-) -> bool {
-    if weight == 0 {
-        return test(letters);
-    }
-    for letter in Letter::ALL {
-        let ahead = weight - usize::from(letter != Letter::I);
-        letters[at] = letter;
-        if ahead < letters.len() - at && first_of_weight(letters, at + 1, ahead, test) {
-            return true;
-        }
-    }
-    letters[at] = Letter::I;
-    false
 }
 
 /// Rows that commute, and what commutes with all of them.
@@ -117,7 +63,8 @@ impl Undetected<'_> {
         rows.all(|row| letters_commute(&row.letters, letters)) && !self.is_member(letters)
     }
 
-    fn is_member(&self, letters: &[Letter]) -> bool {
+    /// Whether the letters are those of a member of the group.
+    pub fn is_member(&self, letters: &[Letter]) -> bool {
         if self.rows.len() > FEW_GENERATORS {
             return group::member(self.rows, letters).is_some();
         }
@@ -127,12 +74,6 @@ impl Undetected<'_> {
         };
         self.members.get_or_init(list).contains(letters)
     }
-}
-
-/// Strings commute where the qubits are even in number at which both have a letter other than I, and not the same.
-fn letters_commute(left: &[Letter], right: &[Letter]) -> bool {
-    let differ = |&(&l, &r): &(&Letter, &Letter)| l != Letter::I && r != Letter::I && l != r;
-    left.iter().zip(right).filter(differ).count() % 2 == 0
 }
 
 fn by_products(sheet: &Sheet, most: usize) -> Option<Vec<Letter>> {
@@ -176,47 +117,6 @@ mod tests {
     use crate::codes::any_code;
     use crate::random::Random;
     use crate::samples::row;
-
-    fn text(letters: Option<Vec<Letter>>) -> String {
-        let bytes = letters.map_or(b"none".to_vec(), |letters| {
-            crate::sheet::letters_text(&letters)
-        });
-        String::from_utf8(bytes).unwrap()
-    }
-
-    #[test]
-    fn strings_come_in_their_order() {
-        let light = sorted_strings(3).iter().take(11).cloned();
-        let light: Vec<String> = light.map(|letters| text(Some(letters))).collect();
-        let order = "III IIX IIY IIZ IXI IYI IZI XII YII ZII IXX";
-        assert_eq!(light.join(" "), order);
-        for n in 0..=FEW_QUBITS {
-            let mut seen = std::cell::RefCell::new(Vec::new());
-            for v in 0..=n {
-                let mut letters = vec![Letter::I; n];
-                let see = |letters: &[Letter]| {
-                    seen.borrow_mut().push(letters.to_vec());
-                    false
-                };
-                assert!(!first_of_weight(&mut letters, 0, v, &see));
-            }
-            assert_eq!(seen.get_mut(), sorted_strings(n));
-            assert_eq!(string_count(n, n), 4_u64.pow(n as u32));
-        }
-        assert_eq!(string_count(24, 3), 57_205);
-    }
-
-    #[test]
-    fn letters_commute_as_rows_do() {
-        let mut random = Random(11);
-        for n in 1..=24 {
-            for _ in 0..20 {
-                let [left, right] = [(); 2].map(|()| crate::samples::any_row(&mut random, n));
-                let by_products = crate::product::commute(&left, &right);
-                assert_eq!(letters_commute(&left.letters, &right.letters), by_products);
-            }
-        }
-    }
 
     #[test]
     fn three_ways_find_the_same() {

@@ -4,8 +4,8 @@
 //!
 //! `independent cases` writes a selection of the cases, and `independent answers` reads cases and writes an answer
 //! for each: these two make crates/test_calls/stdin and crates/test_calls/stdout. `independent compare PROGRAM` runs
-//! the program on all cases and compares its answers. `independent benchmark PROGRAM` is no test: it prints how long the
-//! walks through strings take that the program makes, beside those made here.
+//! the program on all cases and compares its answers. `independent benchmark PROGRAM` is no test: it prints how long
+//! searches take in the program, beside the same made here.
 
 mod admission;
 mod answers;
@@ -15,17 +15,21 @@ mod classical;
 mod codes;
 mod compare;
 mod damage;
+mod decoding;
 mod faults;
 mod group;
+mod guarantee;
 mod lists;
 mod logical_errors;
 mod parts;
 mod product;
 mod published;
+mod questions;
 mod random;
 mod record;
 mod samples;
 mod sheet;
+mod strings;
 
 use cases::Case;
 use std::io::{self, Read, Write};

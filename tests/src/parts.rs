@@ -1,6 +1,8 @@
 //! The cases, part by part. The test program is run on all of them; a selection of each part is kept as files.
 
 mod admissions;
+mod codes;
+mod decodings;
 mod groups;
 mod products;
 mod sheets;
@@ -8,6 +10,7 @@ mod sheets;
 use crate::cases::{Case, Kind};
 use crate::random::Random;
 use crate::record::{LAST_CHANGE, SAME_MODULO_4};
+use codes::Codes;
 use std::collections::HashSet;
 
 /// Cases, and how many of them are kept.
@@ -39,10 +42,12 @@ impl Part {
 }
 
 fn parts() -> Vec<Part> {
+    let codes = Codes::made();
     let mut parts = products::parts();
     parts.extend(sheets::parts());
     parts.extend(groups::parts());
-    parts.extend(admissions::parts());
+    parts.extend(admissions::parts(codes));
+    parts.extend(decodings::parts(codes));
     parts
 }
 
@@ -110,7 +115,7 @@ mod tests {
         let input = lines(cases.iter().flat_map(Case::bytes));
         assert!(input + lines(answers.iter().copied()) < 10_000);
         let answers = String::from_utf8_lossy(&answers);
-        for number in (1..=15).chain([17]) {
+        for number in 1..=17 {
             assert!(answers.contains(&format!(" r={number} at=")), "{number}");
         }
         let changes: HashSet<usize> = cases.iter().map(|case| case.change).collect();

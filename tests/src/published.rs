@@ -2,7 +2,7 @@
 //! they are made. d and w are computed, and d is held to what is printed.
 
 use crate::classical::{blocks, css, even, golay, hamming, hypergraph, neighbours, Matrix};
-use crate::codes::{claiming, completed};
+use crate::codes::{claiming, completed, single};
 use crate::logical_errors;
 use crate::samples::{self, A, EIGHT, FOUR, L, NINE, NINE_OTHER_ROWS, SEVEN_OTHER_ROWS};
 use crate::sheet::{self, Letter, Row, Sheet};
@@ -103,6 +103,20 @@ fn classical_codes() -> Vec<Sheet> {
     ];
     codes.extend([4, 6, 12, 24].map(even_twice));
     codes
+}
+
+/// The Golay code and a qubit that has X for a generator: as many qubits as a sheet may have, and a distance as long.
+pub fn golay_and_a_qubit() -> Sheet {
+    let with_qubit = |mut row: Row| {
+        row.letters.push(Letter::I);
+        row
+    };
+    let mut rows: Vec<Row> = css(&golay(), &golay())
+        .into_iter()
+        .map(with_qubit)
+        .collect();
+    rows.push(single(24, 23, Letter::X));
+    published("Golay and a qubit", [24, 1, 7], completed(rows))
 }
 
 /// Gottesman's codes that saturate the quantum Hamming bound, with the table of the first as it is printed.

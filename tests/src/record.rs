@@ -185,7 +185,7 @@ pub fn write_numbers(n: usize, d: usize, out: &mut [u8]) -> Result<usize, Refusa
 }
 
 /// Check 17, and the text at the front.
-fn put(text: &[u8], out: &mut [u8]) -> Result<usize, Refusal> {
+pub fn put(text: &[u8], out: &mut [u8]) -> Result<usize, Refusal> {
     let room = out.get_mut(..text.len());
     room.ok_or(Refusal::new(17, 0))?.copy_from_slice(text);
     Ok(text.len())

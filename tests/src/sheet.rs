@@ -222,7 +222,7 @@ pub fn row(value: &[u8], n: usize) -> Option<Row> {
     Some(Row { minus, letters })
 }
 
-fn letters(value: &[u8], n: usize) -> Option<Vec<Letter>> {
+pub fn letters(value: &[u8], n: usize) -> Option<Vec<Letter>> {
     let letters: Option<Vec<Letter>> = value.iter().map(|&byte| Letter::read(byte)).collect();
     letters.filter(|letters| letters.len() == n)
 }

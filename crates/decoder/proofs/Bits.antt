@@ -2,10 +2,11 @@
 -- bits is their characters. Each goes row by row or character by character.
 use mathlib.Core.Bool.{Bool, true, false, cond}
 use mathlib.Core.List.{List, map}
-use mathlib.Core.Option.{none, some}
+use mathlib.Core.Option.{none, some, Option·none-ne-some}
 use mathlib.Core.Path.{_≡_, refl, ap, sym, _∙_}
 use Prim.Native.Nat.{ℕ}
-use borrow.Author.Tests.{eq-eqb}
+use borrow.Author.Tests.{eq-eqb, eqb-true}
+use lib.Dec.{eqb}
 use lib.ListN.{length, length-map}
 use Rattle.pauli.specs.declared.Pauli.{Pauli}
 use Rattle.letters.specs.Lists.{firstOf, readByte}
@@ -46,6 +47,15 @@ unfolding readSyndrome syndromeText
 syndrome-read r bits count =
     rw (eq-eqb (length (map bitByte bits)) r (length-map bits bitByte ∙ count))
     (each-read bitByte readBit bit-read bits)
+
+-- What is read as a syndrome has r characters.
+pub read-length : (r : ℕ) (v : List ℕ) (bits : List Bool) → readSyndrome r v ≡ some bits → length v ≡ r
+unfolding readSyndrome
+read-length r v bits h = eqb-true (length v) r (go (eqb (length v) r) h)
+  where
+    go : (test : Bool) → cond test (readEach readBit v) none ≡ some bits → test ≡ true
+    go true h = refl
+    go false h = absurd (Option·none-ne-some bits h)
 
 -- What is read as bits is the characters of r bits.
 pub syndrome-written : (r : ℕ) (v : List ℕ) (bits : List Bool) → length v ≡ r → readSyndrome r v ≡ some bits

@@ -23,7 +23,7 @@ same-bit-is-right true false = (λ h. cc, λ h. cc)
 same-bit-is-right false true = (λ h. cc, λ h. cc)
 same-bit-is-right false false = (λ _. refl, λ _. refl)
 
-same-bits-is-right : (xs ys : List Bool) → (sameBits xs ys ≡ true) ↔ (xs ≡ ys)
+pub same-bits-is-right : (xs ys : List Bool) → (sameBits xs ys ≡ true) ↔ (xs ≡ ys)
 unfolding sameBits
 same-bits-is-right [] [] = (λ _. refl, λ _. refl)
 same-bits-is-right [] (y ∷ ys) = (λ h. cc, λ h. cc)

@@ -10,11 +10,12 @@ use Rattle.refusals.specs.declared.Refusal.{Refusal}
 use Rattle.code_record.specs.Record.{emptyCode}
 use Rattle.sheet.specs.Edges.{nineQubits, sheetA, sheetK}
 use Rattle.sheet.specs.Text.{untouched}
-use Rattle.admission.specs.Admission.{readSheet}
+use Rattle.admission.specs.Admission.{admitted, readSheet}
 use Rattle.decoder.specs.declared.Decoded.{Decoded}
 use Rattle.decoder.specs.declared.SyndromeAnswer.{SyndromeAnswer}
 use Rattle.decoder.specs.Correction.{decode}
 use Rattle.decoder.specs.Definitions.{definitions}
+use Rattle.decoder.specs.EndToEnd.{cycle}
 use Rattle.decoder.specs.Syndrome.{writeSyndrome}
 
 codeA : Code
@@ -89,3 +90,16 @@ share-a-syndrome = refl
 decode-nine : decode codeNine (bytes "00000010") (bytes "abcdefghi") .buffer ≡ bytes "IIZIIIIII"
 unfolding codeNine definitions
 decode-nine = refl
+
+-- ---- a cycle of the calls
+
+-- Sheet A is read, and Y on qubit 3, with a phase, is measured and decoded. Both buffers are longer than the answers.
+cycle-a :
+    cycle (bytes sheetA) (record { p = 3; a = 2 ^ 2; b = 2 ^ 2 }) (bytes "abcdef") (bytes "ghijklm")
+    ≡ record {
+      reading = admitted codeA;
+      measured = record { answer = SyndromeAnswer.Given; buffer = bytes "1110ef" };
+      decoded = record { answer = Decoded.Correction; buffer = bytes "IIYIIlm" };
+    }
+unfolding codeA definitions
+cycle-a = refl

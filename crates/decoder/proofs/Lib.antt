@@ -1,9 +1,12 @@
 pub mod Bits
 pub mod Decode
 pub mod Earliest
+pub mod MeasuredAgain
 pub mod Corrected
 pub mod Guarantee
+pub mod EndToEnd
 pub mod HighBits
+pub mod SyndromeLaws
 pub mod Numbers
 pub mod Untouched
 pub mod Examples

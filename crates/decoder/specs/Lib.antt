@@ -1,4 +1,5 @@
 pub mod Syndrome
 pub mod Correction
-pub mod Definitions
 pub mod Statements
+pub mod EndToEnd
+pub mod Definitions

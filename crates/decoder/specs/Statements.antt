@@ -1,18 +1,19 @@
 -- What is stated of the decoder, and of admission and decoder together: the third guarantee.
-use mathlib.Core.Bool.{Bool, true}
+use mathlib.Core.Bool.{Bool, true, false}
 use mathlib.Core.List.{List, [], _∷_, map}
 use mathlib.Core.Logic.{_↔_}
 use mathlib.Core.Option.{some}
 use mathlib.Core.Path.{_≡_}
 use Prim.Native.Nat.{ℕ, _+_, _%_, _^_, _≤_, _<_}
-use lib.ListN.{length}
+use lib.ListN.{length, take, replicate}
 use Rattle.pauli.specs.declared.Pauli.{Pauli}
 use Rattle.letters.specs.declared.Letter.{Letter}
 use Rattle.pauli.specs.Letters.{ofLetters}
 use Rattle.letters.specs.Letters.{letterByte}
+use Rattle.letters.specs.Lists.{allOf}
 use Rattle.pauli.specs.Order.{weightOf, Earlier}
-use Rattle.pauli.specs.Product.{product, weight}
-use Rattle.pauli.specs.Syndrome.{syndrome}
+use Rattle.pauli.specs.Product.{product, commutes, weight}
+use Rattle.pauli.specs.Syndrome.{syndrome, addBits}
 use Rattle.code_record.specs.declared.Code.{Code}
 use Rattle.refusals.specs.declared.ErrorPair.{ErrorPair}
 use Rattle.refusals.specs.declared.Refusal.{Refusal}
@@ -22,10 +23,12 @@ use Rattle.sheet.specs.Reader.{SheetRead}
 use Rattle.sheet.specs.Statements.{RefusalLeaves, Among}
 use Rattle.sheet.specs.Text.{laid, untouched}
 use Rattle.stabilizer.specs.Group.{InGroupUpToPhase}
+use Rattle.stabilizer.specs.Statements.{Commuting}
 use Rattle.admission.specs.declared.Admission.{Admission}
 use Rattle.admission.specs.Admission.{AdmissibleButForDistance, admissionRefusal, admitted, readSheet}
 use Rattle.admission.specs.Statements.{FindsFirst}
 use Rattle.decoder.specs.declared.Decoded.{Decoded}
+use Rattle.decoder.specs.declared.SyndromeAnswer.{SyndromeAnswer}
 use Rattle.decoder.specs.Syndrome.{syndromeText, syndromeRefusal, writeSyndrome}
 use Rattle.decoder.specs.Correction.{correction, decode, decodedRefusal}
 
@@ -45,6 +48,20 @@ pub record SyndromesHaveRBits : Type 0 where
       → length (syndrome (generators c) P) ≡ c .r
   pub ofSheet : (s : List ℕ) (P : Pauli) → readSheet s .answer ≡ Admission.Admitted
       → length (syndrome (generators (readSheet s .code)) P) ≡ readSheet s .code .r
+
+-- RULES, "Decoding": what syndromes tell of errors. The syndrome of a product is the sum of the two, bit by bit. Where
+-- rows commute, as those of an admitted sheet do, every Pauli that is in their group, phase aside, has the syndrome of
+-- zeros. Two errors have one syndrome exactly where their product commutes with every row.
+pub record SyndromesTellErrors : Type 0 where
+  pub products : (rows : List Pauli) (P Q : Pauli)
+      → syndrome rows (product P Q) ≡ addBits (syndrome rows P) (syndrome rows Q)
+  pub members : (rows : List Pauli) (P : Pauli) → Commuting rows → InGroupUpToPhase rows P
+      → syndrome rows P ≡ replicate (length rows) false
+  pub ofSheet : (s : List ℕ) (P : Pauli) → readSheet s .answer ≡ Admission.Admitted
+      → InGroupUpToPhase (generators (readSheet s .code)) P
+      → syndrome (generators (readSheet s .code)) P ≡ replicate (readSheet s .code .r) false
+  pub same : (rows : List Pauli) (P Q : Pauli)
+      → (syndrome rows P ≡ syndrome rows Q) ↔ (allOf (commutes (product P Q)) rows ≡ true)
 
 -- ---- the calls
 
@@ -75,6 +92,30 @@ pub record Candidate (c : Code) (bits : List Bool) (s : List Letter) : Type 0 wh
 -- RULES, "Decoding": the correction is the earliest of them, or there is none.
 abbrev pub CorrectionIsEarliest : Type 0
 CorrectionIsEarliest = (c : Code) (bits : List Bool) → FindsFirst Earlier (Candidate c bits) (correction c bits)
+
+-- RULES, "Decoding": the correction for the syndrome of a correction is that correction.
+abbrev pub CorrectionsReturn : Type 0
+CorrectionsReturn =
+    (c : Code) (bits : List Bool) (s : List Letter) → correction c bits ≡ some s
+    → correction c (syndrome (generators c) (ofLetters s)) ≡ some s
+
+-- RULES, "Decoding": the same of the calls. Of the n letters that a decode call wrote, the syndrome call writes the
+-- characters that were decoded; and from these, as they stand in its buffer, the decode call writes the same letters.
+pub record MeasuredAgain (c : Code) (characters before : List ℕ) : Type 0 where
+  pub letters : List Letter
+  pub count : length letters ≡ c .n
+  pub wrote : decode c characters before .buffer ≡ laid (map letterByte letters) before
+  pub measured : (buffer : List ℕ) → c .r ≤ length buffer
+      → writeSyndrome c (ofLetters letters) buffer
+      ≡ record { answer = SyndromeAnswer.Given; buffer = laid characters buffer }
+  pub again : (first second : List ℕ) → c .r ≤ length first → c .n ≤ length second
+      → decode c (take (c .r) (writeSyndrome c (ofLetters letters) first .buffer)) second
+      ≡ record { answer = Decoded.Correction; buffer = laid (map letterByte letters) second }
+
+abbrev pub DecodedIsMeasuredAgain : Type 0
+DecodedIsMeasuredAgain =
+    (c : Code) (characters before : List ℕ) → decode c characters before .answer ≡ Decoded.Correction
+    → MeasuredAgain c characters before
 
 -- ---- the third guarantee, first half: errors are corrected
 

@@ -90,56 +90,70 @@ syndromes-additive rows = record {
   ofProduct = syndrome-mask-is-additive rows;
 }
 
--- All qubits of a code have words where there is room for them.
+-- As many qubits have words as there is room for: all of a code that has no more.
 pub all-qubits : (c : Code) → c .n ≤ qubitRoom → wordQubits c ≡ c .n
 unfolding wordQubits
 all-qubits c few = omega arith
 
-module _ (c : Code) (few : c .n ≤ qubitRoom) (s : List Letter) (count : length s ≡ c .n) where
-  pub syndromes-sum : sumOf (syndromeWords c .first) (c .n) s ≡ syndromeMask (generators c) (ofLetters s)
+word-qubits-fit : (c : Code) → wordQubits c ≤ qubitRoom
+unfolding wordQubits
+word-qubits-fit c = omega arith
+
+-- The call searches the qubits that have words.
+searched-words : (c : Code) → min (wordQubits c) qubitRoom ≡ wordQubits c
+searched-words c = omega (arith, word-qubits-fit c)
+
+pub searched-qubits : (c : Code) → c .n ≤ qubitRoom → min (wordQubits c) qubitRoom ≡ c .n
+searched-qubits c few = searched-words c ∙ all-qubits c few
+
+module _ (c : Code) (s : List Letter) (count : length s ≡ wordQubits c) where
+  syndromes-sum : sumOf (syndromeWords c .first) (wordQubits c) s ≡ syndromeMask (generators c) (ofLetters s)
   unfolding syndromeWords
   syndromes-sum =
-      let word = syndromeMask (generators c) in
-      ap (λ (n : ℕ). sumOf (wordsOf word n) (c .n) s) (all-qubits c few)
-      ∙ words-sum word (syndromes-additive (generators c)) (c .n) few s count
+      words-sum (syndromeMask (generators c)) (syndromes-additive (generators c)) (wordQubits c) (word-qubits-fit c) s
+      count
 
-  zeros-sum : sumOf (syndromeWords c .second) (c .n) s ≡ 0
+  zeros-sum : sumOf (syndromeWords c .second) (wordQubits c) s ≡ 0
   unfolding syndromeWords wordsOf
   zeros-sum =
-      ap (λ words. sumOf words (c .n) s) (filled-zeros (3 * c .n))
-      ∙ words-sum (λ P. 0) (record { ofMasks = λ P Q a b. refl; ofProduct = λ P Q. refl }) (c .n) few s count
+      ap (λ words. sumOf words (wordQubits c) s) (filled-zeros (3 * wordQubits c))
+      ∙ words-sum (λ P. 0) (record { ofMasks = λ P Q a b. refl; ofProduct = λ P Q. refl }) (wordQubits c)
+      (word-qubits-fit c) s count
 
   passes-syndrome : (want : ℕ)
-      → passes (syndromeWords c .first) (syndromeWords c .second) (c .n) want 1 s
+      → passes (syndromeWords c .first) (syndromeWords c .second) (wordQubits c) want 1 s
       ≡ eqb (syndromeMask (generators c) (ofLetters s)) want
   unfolding passes sumsTo
   passes-syndrome want =
       ap₂ (λ (first second : ℕ). eqb first want && not (eqb second 1)) syndromes-sum zeros-sum
       ∙ and-true (eqb (syndromeMask (generators c) (ofLetters s)) want)
 
--- The call searches all qubits of a code that has words for them.
-pub searched-qubits : (c : Code) → c .n ≤ qubitRoom → min (wordQubits c) qubitRoom ≡ c .n
-searched-qubits c few = omega (arith, all-qubits c few)
+-- The same of strings of n letters.
+pub syndromes-sum-on : (c : Code) → c .n ≤ qubitRoom → (s : List Letter) → length s ≡ c .n
+    → sumOf (syndromeWords c .first) (c .n) s ≡ syndromeMask (generators c) (ofLetters s)
+syndromes-sum-on c few s count =
+    let all = all-qubits c few in
+    ap (λ (n : ℕ). sumOf (syndromeWords c .first) n s) (sym all) ∙ syndromes-sum c s (count ∙ sym all)
 
-module _ (c : Code) (few : c .n ≤ qubitRoom) (t want : ℕ) where
-  finds-syndrome : earliestUpTo (syndromeWords c .first) (syndromeWords c .second) (c .n) t want 1
+module _ (c : Code) (t want : ℕ) where
+  finds-syndrome : earliestUpTo (syndromeWords c .first) (syndromeWords c .second) (wordQubits c) t want 1
       ≡ earliestWith c t want
   unfolding earliestUpTo earliestWith
   finds-syndrome =
-      same-search _ _ (stringsUpTo (c .n) t) (stringsUpTo-listed (c .n) t)
-      (λ s meets. passes-syndrome c few s (meets .0) want)
+      same-search _ _ (stringsUpTo (wordQubits c) t) (stringsUpTo-listed (wordQubits c) t)
+      (λ s meets. passes-syndrome c s (meets .0) want)
 
   call-finds-syndrome : earliestBy (syndromeWords c) t want 1 ≡ foundAs (earliestWith c t want)
   unfolding earliestBy syndromeWords
   call-finds-syndrome =
       let words = syndromeWords c in
-      ap (λ (n : ℕ). foundAs (earliestUpTo (words .first) (words .second) n t want 1)) (searched-qubits c few)
+      ap (λ (n : ℕ). foundAs (earliestUpTo (words .first) (words .second) n t want 1)) (searched-words c)
       ∙ ap foundAs finds-syndrome
 
 pub syndromes-are-summed : SyndromesAreSummed
-syndromes-are-summed c few = record {
-  first = syndromes-sum c few;
-  second = zeros-sum c few;
-  found = finds-syndrome c few;
-  call = call-finds-syndrome c few;
+syndromes-are-summed c = record {
+  first = syndromes-sum c;
+  second = zeros-sum c;
+  found = finds-syndrome c;
+  call = call-finds-syndrome c;
 }

@@ -58,7 +58,8 @@ syndromeWords c = record {
   second = replicate wordRoom 0;
 }
 
--- RULES, "Decoding": the earliest string of weight at most t with a given syndrome, here as a mask.
+-- RULES, "Decoding": the earliest string of weight at most t, on the qubits that have words, with a given syndrome as a
+-- mask. Within limits these are all n qubits.
 unfoldable pub earliestWith : Code → ℕ → ℕ → Option (List Letter)
 earliestWith c t want =
-    firstOf (λ s. eqb (syndromeMask (generators c) (ofLetters s)) want) (stringsUpTo (c .n) t)
+    firstOf (λ s. eqb (syndromeMask (generators c) (ofLetters s)) want) (stringsUpTo (wordQubits c) t)

@@ -34,7 +34,7 @@ use Rattle.elimination.proofs.Passed.{fault-told, rows-told, passed-within, pas
 use Rattle.letter_sums.specs.declared.LetterWords.{LetterWords}
 use Rattle.letter_sums.specs.Sums.{qubitRoom, sumOf, sumsTo, passes, earliestUpTo, earliestBy, foundAs}
 use Rattle.letter_words.specs.Words.{wordsOf}
-use Rattle.letter_words.proofs.Sums.{Additive, words-sum, all-qubits, searched-qubits, syndromes-sum}
+use Rattle.letter_words.proofs.Sums.{Additive, words-sum, all-qubits, searched-qubits, syndromes-sum-on}
 use Rattle.admission.specs.Distance.{isLogicalError, logicalErrorUpTo}
 use Rattle.logical_words.specs.Statements.{LogicalWordsAreSummed, LogicalErrorsAreFound}
 use Rattle.logical_words.specs.Words.{logicalWords}
@@ -52,7 +52,7 @@ unfolding logicalWords
 logical-words-are-summed c rows few s count =
     let word = remainderWord (rows .n) (rowsIn rows) in
     record {
-      first = syndromes-sum c few s count;
+      first = syndromes-sum-on c few s count;
       second = ap (λ (n : ℕ). sumOf (wordsOf word n) (c .n) s) (all-qubits c few)
           ∙ words-sum word (remainders-additive (rows .n) (rowsIn rows)) (c .n) few s count;
     }

@@ -6,11 +6,10 @@ use code_record::MOST_QUBITS;
 use code_record::ROW_ROOM;
 use letters::Sign;
 use pauli::Pauli;
-use refusals::Family;
 ghost use mathlib.Core.Path.{_≡_};
 ghost use Prim.Native.Nat.{_≤_};
 ghost use Rattle.pauli.specs.Product.{identity, samePauli};
-ghost use Rattle.code_record.specs.Record.{mostQubits, rowsOf};
+ghost use Rattle.code_record.specs.Record.{mostQubits};
 ghost use Rattle.code_record.specs.Record.{between, onQubits, isRow, isClaim, areRows, withinLimits};
 
 fn between(low: usize, high: usize, m: usize) -> bool
@@ -51,16 +50,17 @@ fn is_identity(p: Pauli) -> bool
     p.p % 4 == 0 && (p.a == 0 && p.b == 0)
 }
 
-// Whether the first `count` rows of a family are rows of n qubits, and the others +I.
-fn are_rows(code: Code, family: Family, count: usize) -> bool
-    requires { ⌜ code .n ≤ mostQubits ⌝ }
-    ensures { λ r. ⌜ r ≡ areRows (code .n) count (rowsOf family code) ⌝ }
+// Whether the first `count` rows of a family are rows of n qubits, and the others +I. The family's array is copied once
+// for a call.
+fn are_rows(rows: [Pauli; ROW_ROOM], n: usize, count: usize) -> bool
+    requires { ⌜ n ≤ mostQubits ⌝ }
+    ensures { λ r. ⌜ r ≡ areRows n count rows ⌝ }
 {
     let mut place: usize = 0;
     while place < ROW_ROOM {
-        let p = code.row(family, place);
+        let p = rows[place];
         if place < count {
-            if !is_row(p, code.n) {
+            if !is_row(p, n) {
                 return false;
             }
         } else if !is_identity(p) {
@@ -84,14 +84,17 @@ pub fn within_limits(code: Code) -> bool
     if !between(1, MOST_DISTANCE, code.d) {
         return false;
     }
-    if !are_rows(code, Family::Generator, code.r) {
+    let g = code.g;
+    if !are_rows(g, code.n, code.r) {
         return false;
     }
     let k = code_record::pair_count(code.n, code.r);
-    if !are_rows(code, Family::LogicalX, k) {
+    let x = code.x;
+    if !are_rows(x, code.n, k) {
         return false;
     }
-    if !are_rows(code, Family::LogicalZ, k) {
+    let z = code.z;
+    if !are_rows(z, code.n, k) {
         return false;
     }
     is_claim(code.w, code.n)

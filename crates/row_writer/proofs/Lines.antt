@@ -47,7 +47,7 @@ length-letters-laid n place P buffer h room =
     length-taken (letterText n P) buffer (omega (arith, length-letterText n P)) place
     (omega (arith, length-letterText n P))
 
-letters-whole : (n place : ℕ) (P : Pauli) → n ≤ place → take place (letterText n P) ≡ letterText n P
+pub letters-whole : (n place : ℕ) (P : Pauli) → n ≤ place → take place (letterText n P) ≡ letterText n P
 letters-whole n place P h = take-all place (letterText n P) (omega (arith, length-letterText n P))
 
 -- All letters, and the line feed behind them.

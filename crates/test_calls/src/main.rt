@@ -1,16 +1,21 @@
 // Runs the calls that are proved, so that they can be compared with an implementation that shares nothing with them.
 // Standard input is a run of cases, each of one kind: "p" for products of rows, "s" for a sheet that is read and
 // written back, "l" for single lines of a sheet, "g" for the group of a sheet's generators, "a" for the admission of a
-// sheet, "c" for the checks of a record.
+// sheet, "c" for the checks of a record, "d" for syndromes and corrections of a record, "e" for the corrections of
+// errors on an admitted code.
 mod admissions;
+mod decodings;
 mod groups;
 mod products;
 mod sheets;
 mod single_lines;
+mod words;
 mod written;
 
 use admissions::answer_admission;
 use admissions::answer_checks;
+use decodings::answer_corrections;
+use decodings::answer_decodings;
 use groups::answer_group;
 use products::answer_products;
 use sheets::answer_sheet;
@@ -37,6 +42,8 @@ fn answer(kind: u8, change: usize, text: &[u8]) {
         b'g' => answer_group(text, change),
         b'a' => answer_admission(text),
         b'c' => answer_checks(text, change),
+        b'd' => answer_decodings(text, change),
+        b'e' => answer_corrections(text),
         _ => print(b"no kind of case\n"),
     }
 }

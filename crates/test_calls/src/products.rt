@@ -2,20 +2,12 @@
 // and a line feed. The answer is the product of the rows from left to right, whether the last row commutes with the
 // product of those before it, and the product's weight: "-YY commutes 2". A line with anything else is answered "not
 // rows".
-use letters::Letter;
-use letters::LetterRead;
-use letters::Sign;
-use letters::SignRead;
+use crate::words::Row;
+use crate::words::part_end;
+use crate::words::read_row;
 use pauli::Pauli;
 use test_cases::print;
 use test_cases::print_number;
-ghost use Prim.Native.Nat.{_≤_};
-ghost use lib.ListN.{length};
-
-enum Row {
-    Got { row: Pauli, width: u32 },
-    NotARow,
-}
 
 // The rows of a line up to some place: their product, and whether the last commutes with the product of the others.
 struct Line {
@@ -29,27 +21,11 @@ pub fn answer_products(text: &[u8]) {
     let mut line = Line::without(true);
     let mut from = 0;
     while from < text.len() {
-        let end = word_end(text, from);
+        let end = part_end(text, from, b' ');
         line = line.with(&text[from..end]);
         from = end + 1;
     }
     line.print();
-}
-
-// Where the word that begins at `from` ends: at a space, a line feed or the end of the text.
-fn word_end(text: &[u8], from: usize) -> usize
-    requires { ⌜ from ≤ length (now text) ⌝ }
-    ensures { λ r. ⌜ from ≤ r ⌝ }
-    ensures { λ r. ⌜ r ≤ length (now (text .entry)) ⌝ }
-{
-    let mut end = from;
-    while end < text.len() {
-        if text[end] == b' ' || text[end] == b'\n' {
-            return end;
-        }
-        end += 1;
-    }
-    end
 }
 
 impl Line {
@@ -95,28 +71,6 @@ impl Line {
         print_number(product.weight() as usize);
         print(b"\n");
     }
-}
-
-// A sign and up to 32 letters.
-fn read_row(word: &[u8]) -> Row {
-    if word.len() < 2 || 33 < word.len() {
-        return Row::NotARow;
-    }
-    let width = (word.len() - 1) as u32;
-    let SignRead::Got(sign) = Sign::read(word[0]) else {
-        return Row::NotARow;
-    };
-    let mut a: u32 = 0;
-    let mut b: u32 = 0;
-    for place in 0..width {
-        let LetterRead::Got(letter) = Letter::read(word[place as usize + 1]) else {
-            return Row::NotARow;
-        };
-        a = a | letter.x_bit() << place;
-        b = b | letter.z_bit() << place;
-    }
-    let row = Pauli::signed(sign, a, b);
-    Row::Got { row, width }
 }
 
 // The sign of a signed row. Any other Pauli is i times one, and the i is written behind that one's sign.

@@ -1,11 +1,11 @@
 -- One step of each scan: the words from a place on, by the word at that place and those behind it.
-use mathlib.Core.Bool.{Bool, true, false, true≢false, _&&_}
+use mathlib.Core.Bool.{Bool, true, false, true≢false, _&&_, _||_, or-false}
 use mathlib.Core.List.{List, [], _∷_}
 use mathlib.Core.Path.{_≡_, refl, ap, ap₂, sym, _∙_}
 use Prim.Native.Nat.{ℕ, zero, suc, _+_, _-_, _<_, _≤_}
 use native.Mathlib.Numerals.{add-one}
 use native.Mathlib.Omega.{arith}
-use borrow.Author.Tests.{eq-eqb, ne-eqb}
+use borrow.Author.Tests.{eq-eqb, ne-eqb, eqb-true, eqb-false}
 use lib.Dec.{eqb}
 use lib.ListN.{length, drop, getD, drop-of-length-le, length-drop}
 use lib.Seq.{drop-cons}
@@ -21,20 +21,27 @@ word-at words place inside =
 -- ---- whether a word occurs
 
 module _ (words : List ℕ) (place want : ℕ) where
-  pub occurs-here : place < length words → getD words place 0 ≡ want → anyOf (eqb want) (drop place words) ≡ true
-  unfolding anyOf
-  occurs-here inside e =
-      ap (anyOf (eqb want)) (word-at words place inside) ∙ rw (eq-eqb want (getD words place 0) (sym e), anyOf)
+  abbrev occursFrom : ℕ → Bool
+  occursFrom k = anyOf (eqb want) (drop k words)
 
-  pub occurs-later : place < length words → (getD words place 0 ≡ want → ⊥)
-      → anyOf (eqb want) (drop place words) ≡ anyOf (eqb want) (drop (place + 1) words)
+  -- It was found, or is the word at the place, or occurs behind that.
+  pub occurs-step : (found : Bool) → place < length words
+      → ((found || eqb (getD words place 0) want) || occursFrom (place + 1)) ≡ (found || occursFrom place)
   unfolding anyOf
-  occurs-later inside e =
-      ap (anyOf (eqb want)) (word-at words place inside) ∙ rw (ne-eqb want (getD words place 0) (λ q. e (sym q)), anyOf)
+  occurs-step true inside = refl
+  occurs-step false inside = sym (ap (anyOf (eqb want)) (word-at words place inside) ∙ go (eqb word want) refl)
+    where
+      word : ℕ
+      word = getD words place 0
 
-  pub occurs-nowhere : length words ≤ place → anyOf (eqb want) (drop place words) ≡ false
+      go : (t : Bool) → eqb word want ≡ t
+          → anyOf (eqb want) (word ∷ drop (place + 1) words) ≡ (t || occursFrom (place + 1))
+      go true e = rw (eq-eqb want word (sym (eqb-true word want e)), anyOf)
+      go false e = rw (ne-eqb want word (λ q. eqb-false word want e (sym q)), anyOf)
+
+  pub occurs-nowhere : (found : Bool) → length words ≤ place → (found || occursFrom place) ≡ found
   unfolding anyOf
-  occurs-nowhere end = ap (anyOf (eqb want)) (drop-of-length-le words end)
+  occurs-nowhere found end = ap (λ rest. found || anyOf (eqb want) rest) (drop-of-length-le words end) ∙ or-false found
 
 -- ---- the first place where the words fit
 

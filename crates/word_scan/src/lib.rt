@@ -1,20 +1,28 @@
 // Scans of words, for the last letter of a string in the search: most strings are passed over here, so a scan does
 // little at each word.
+ghost use mathlib.Core.Bool.{_||_};
 ghost use mathlib.Core.Path.{_≡_};
 ghost use lib.Dec.{eqb};
 ghost use Rattle.letters.specs.Lists.{anyOf};
 ghost use Rattle.word_scan.specs.Scan.{firstPlace};
 
-// Whether a word is among the words.
+// Whether one of the two holds.
+fn either(one: bool, other: bool) -> bool
+    ensures { λ r. ⌜ r ≡ (one || other) ⌝ }
+{
+    one || other
+}
+
+// Whether a word is among the words. The scan goes on where it has found the word, since a loop that always goes to
+// its end is compiled to compare several words at once.
 fn occurs(words: &[u32], want: u32) -> bool
     ensures { λ r. ⌜ r ≡ anyOf (eqb want) (now (words .entry)) ⌝ }
 {
+    let mut found = false;
     for place in 0..words.len() {
-        if words[place] == want {
-            return true;
-        }
+        found = either(found, words[place] == want);
     }
-    false
+    found
 }
 
 // The first place where the first word is the one wanted and the second is not the one shunned; the number of first

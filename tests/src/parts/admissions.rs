@@ -1,14 +1,13 @@
 //! Sheets to be admitted or refused, and records to be checked.
 
-use super::{each_change, unchanged, Part};
+use super::{each_change, unchanged, Codes, Part};
 use crate::cases::{Case, Kind};
-use crate::codes::{any_code, claiming, completed, disguised};
-use crate::codes::{of_each_weight, with_distance, with_longer_distances};
+use crate::codes::{any_code, with_distance};
 use crate::faults::FAULTS;
 use crate::random::Random;
 use crate::samples::{self, A, CLASH, EIGHT, FOUR, I, K, NINE};
 use crate::sheet::{self, Sheet};
-use crate::{damage, lists, published};
+use crate::{damage, published};
 
 type Texts = Vec<Vec<u8>>;
 
@@ -24,12 +23,13 @@ z=-IIZ
 w=IIX
 ";
 
-pub fn parts() -> Vec<Part> {
+pub fn parts(codes: &Codes) -> Vec<Part> {
     let mut random = Random(0x5eed_000a_1996);
-    let published = published_codes(&mut random);
-    let generated = generated(&mut random);
+    let published = with_faults(&mut random, &codes.published);
+    let generated = with_faults(&mut random, &codes.generated);
     let with_two_faults = with_two_faults(&mut random);
-    let distances = distances(&mut random);
+    let distances = codes.with_longer_distances.iter().flatten();
+    let distances: Texts = distances.map(Sheet::text).collect();
     vec![
         Part::kept(sheets(samples::starred())),
         Part::kept(sheets(of_each_number())),
@@ -42,7 +42,6 @@ pub fn parts() -> Vec<Part> {
         Part::sampled(0, sheets(generated.clone())),
         Part::sampled(0, sheets(with_two_faults.clone())),
         Part::sampled(0, sheets(distances)),
-        Part::sampled(0, sheets(long_distances(&mut random))),
         Part::sampled(0, sheets(any_rows(&mut random))),
         Part::sampled(0, sheets(cut())),
         Part::sampled(0, sheets(damaged(&mut random, &generated))),
@@ -100,40 +99,10 @@ fn as_printed() -> [String; 3] {
     [FOUR.to_string(), published::four_put_right(), twenty_five]
 }
 
-/// Each published code with its distance, with each fault, and with some pairs of faults.
-fn published_codes(random: &mut Random) -> Texts {
-    let codes = published::all().into_iter();
-    let sheets = codes.flat_map(|sheet| faulty(random, &sheet));
+/// Each of the codes, and each with every fault that it has a place for.
+fn with_faults(random: &mut Random, codes: &[Sheet]) -> Texts {
+    let sheets = codes.iter().flat_map(|sheet| faulty(random, sheet));
     sheets.map(|sheet| sheet.text()).collect()
-}
-
-/// Codes of every n, with few generators and with many: each with its distance, and with each fault. Some have their
-/// logicals made anew.
-fn generated(random: &mut Random) -> Texts {
-    let mut texts = Texts::new();
-    for n in 2..=24 {
-        let some = 1 + random.index(n - 1);
-        for r in [
-            Some(1),
-            Some(2),
-            Some(some),
-            n.checked_sub(3),
-            n.checked_sub(2),
-            Some(n - 1),
-        ] {
-            let Some(r) = r.filter(|r| (1..n).contains(r)) else {
-                continue;
-            };
-            let mut code = any_code(random, n, r);
-            if random.below(3) == 0 {
-                code = completed(code.generators);
-            }
-            let admitted = with_distance(random, &code).into_iter();
-            let sheets = admitted.flat_map(|sheet| faulty(random, &sheet));
-            texts.extend(sheets.map(|sheet| sheet.text()));
-        }
-    }
-    texts
 }
 
 /// The sheet, and the sheet with each of the faults that it has a place for.
@@ -144,36 +113,6 @@ fn faulty(random: &mut Random, sheet: &Sheet) -> Vec<Sheet> {
         .collect();
     sheets.insert(0, sheet.clone());
     sheets
-}
-
-/// Codes of every size, more of those with few pairs, whose distances are longer, and published codes in other clothes:
-/// each with its distance and with longer ones, which are refuted.
-fn distances(random: &mut Random) -> Texts {
-    let mut codes = Vec::new();
-    for n in 2..=24 {
-        codes.extend((1..n).map(|r| any_code(random, n, r)));
-    }
-    for n in (7..=16).flat_map(|n| [n; 8]) {
-        let r = n - 1 - random.index(2);
-        codes.push(lists::dense_code(random, n, r));
-    }
-    for sheet in published::all() {
-        codes.extend([(); 3].map(|()| disguised(random, &sheet)));
-    }
-    let sheets = codes
-        .iter()
-        .flat_map(|code| with_longer_distances(random, code));
-    sheets.map(|sheet| sheet.text()).collect()
-}
-
-/// Codes of one pair and many qubits, which have the longest distances.
-fn long_distances(random: &mut Random) -> Texts {
-    let codes = [22, 23, 23, 24, 24, 24].map(|n| lists::dense_code(random, n, n - 1));
-    let claiming_each = |code: &Sheet| -> Texts {
-        let claims = of_each_weight(code).into_iter();
-        claims.map(|claim| claiming(code, claim).text()).collect()
-    };
-    codes.iter().flat_map(claiming_each).collect()
 }
 
 /// Each fault behind each other, in codes with two generators and two pairs at least.
@@ -306,7 +245,10 @@ mod tests {
 
     #[test]
     fn every_part_has_cases() {
-        let counts: Vec<usize> = parts().iter().map(|part| part.cases.len()).collect();
+        let counts: Vec<usize> = parts(Codes::made())
+            .iter()
+            .map(|part| part.cases.len())
+            .collect();
         assert!(counts.iter().all(|&count| count > 0), "{counts:?}");
         assert!(counts.iter().sum::<usize>() > 10_000, "{counts:?}");
     }

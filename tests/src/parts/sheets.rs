@@ -25,8 +25,8 @@ pub fn parts() -> Vec<Part> {
         Part::kept(changed_a),
         Part::sampled(10, changed),
         Part::sampled(0, texts(samples::repetitions())),
-        Part::sampled(5, texts(any_form(&mut random))),
-        Part::sampled(4, texts(codes(&mut random))),
+        Part::sampled(4, texts(any_form(&mut random))),
+        Part::sampled(3, texts(codes(&mut random))),
         Part::sampled(10, texts(cut(&mut random))),
         Part::sampled(40, texts(damaged(&mut random))),
         Part::sampled(15, texts(lines_out_of_place())),
@@ -38,7 +38,7 @@ pub fn parts() -> Vec<Part> {
         Part::sampled(0, texts(long(&mut random))),
         Part::kept(unchanged(Kind::Lines, [A, EIGHT])),
         Part::sampled(4, unchanged(Kind::Lines, any_form(&mut random))),
-        Part::sampled(8, each_change(Kind::Lines, to_be_changed)),
+        Part::sampled(6, each_change(Kind::Lines, to_be_changed)),
     ]
 }
 

@@ -1,16 +1,14 @@
 -- Whether the rows of a family are lawful: at each place, what is asked of all rows is what is asked of those from
 -- there on.
 use mathlib.Core.Bool.{Bool, _&&_}
-use mathlib.Core.List.{List}
 use mathlib.Core.Logic.{⊎-elim}
-use mathlib.Core.Path.{_≡_, ap, sym, _∙_}
+use mathlib.Core.Path.{_≡_, refl, ap, sym, _∙_}
 use Prim.Native.Nat.{ℕ, _+_, _-_, _<_, _≤_}
 use native.Mathlib.Omega.{arith}
-use lib.ListN.{length, drop}
+use lib.ListN.{length, drop, getD}
 use Rattle.pauli.specs.declared.Pauli.{Pauli}
 use Rattle.pauli.specs.Product.{identity, samePauli}
-use Rattle.code_record.specs.Record.{rowRoom, rowsOf, isRow, areRows}
-use Rattle.code_record.proofs.ArrayLengths.{sized-of, room-of}
+use Rattle.code_record.specs.Record.{rowRoom, isRow, areRows}
 use Rattle.code_record.proofs.Tests.{passed, failed}
 use Rattle.record_limits.proofs.RowLimits.{used-at, unused-at, areRows-behind-end}
 use borrow.Author.Needs.{needs}
@@ -18,52 +16,46 @@ use Rattle.record_limits.proofs.are_rows.Statement.{statement}
 use Rattle.record_limits.proofs.are_rows.Tie as tie
 
 abbrev Inv-loop : tie.InvT-loop
-Inv-loop code family count place₀ place =
-    (length (rowsOf family code) ≡ rowRoom) × (place ≤ rowRoom)
-    × (areRows (code .n) count (rowsOf family code)
-    ≡ areRows (code .n) (count - place) (drop place (rowsOf family code)))
+Inv-loop n count rows place₀ place =
+    (length rows ≡ rowRoom) × (place ≤ rowRoom) × (areRows n count rows ≡ areRows n (count - place) (drop place rows))
 
 abbrev μ-loop : tie.MeasureT-loop
-μ-loop code family count place₀ place = rowRoom - place
+μ-loop n count rows place₀ place = rowRoom - place
 
 -- ---- a turn: the row at its place is tested, and the rows behind it are left
 
-abbrev n : tie.After-row Inv-loop μ-loop → ℕ
-n c = c .before .before .before .args .code .n
+abbrev start : tie.After-p Inv-loop μ-loop → tie.Start Inv-loop μ-loop
+start c = c .before .before .before
 
-abbrev count : tie.After-row Inv-loop μ-loop → ℕ
-count c = c .before .before .before .args .count
-
-abbrev rows : tie.After-row Inv-loop μ-loop → List Pauli
-rows c = rowsOf (c .before .before .before .args .family) (c .before .before .before .args .code)
-
-abbrev place : tie.After-row Inv-loop μ-loop → ℕ
+abbrev place : tie.After-p Inv-loop μ-loop → ℕ
 place c = c .before .before .loop .place
 
-abbrev Left : tie.After-row Inv-loop μ-loop → Bool → Type 0
+abbrev row : tie.After-p Inv-loop μ-loop → Pauli
+row c = getD (start c .args .t1) (place c) identity
+
+abbrev Left : tie.After-p Inv-loop μ-loop → Bool → Type 0
 Left c test =
-    areRows (n c) (count c) (rows c) ≡ (test && areRows (n c) (count c - (place c + 1)) (drop (place c + 1) (rows c)))
+    let a = start c .args in
+    areRows (a .n) (a .count) (a .t1)
+    ≡ (test && areRows (a .n) (a .count - (place c + 1)) (drop (place c + 1) (a .t1)))
 
-left-used : (c : tie.After-row Inv-loop μ-loop) {test : Bool} → place c < count c → isRow (n c) (c .row .result) ≡ test
-    → Left c test
+left-used : (c : tie.After-p Inv-loop μ-loop) {test : Bool} → place c < start c .args .count
+    → isRow (start c .args .n) (row c) ≡ test → Left c test
 left-used c few test =
-    c .before .before .loop .inv .2 ∙ used-at _ _ (place c) _ (omega arith) (c .row .ensures) few test
+    c .before .before .loop .inv .2 ∙ used-at _ _ (place c) _ (omega arith) refl few test
 
-left-unused : (c : tie.After-row Inv-loop μ-loop) {test : Bool} → count c ≤ place c
-    → samePauli identity (c .row .result) ≡ test → Left c test
+left-unused : (c : tie.After-p Inv-loop μ-loop) {test : Bool} → start c .args .count ≤ place c
+    → samePauli identity (row c) ≡ test → Left c test
 left-unused c many test =
-    c .before .before .loop .inv .2 ∙ unused-at _ _ (place c) _ (omega arith) (c .row .ensures) many test
+    c .before .before .loop .inv .2 ∙ unused-at _ _ (place c) _ (omega arith) refl many test
 
 -- ---- the needs
 
 loop-holds : tie.Need-loop-holds Inv-loop μ-loop
 loop-holds c =
     let a = c .args in
-    let all : a .count ≡ a .count - 0 = omega arith in (
-      room-of (a .code) (sized-of (a .code) (c .good .0)) (a .family),
-      omega arith,
-      ap (λ m. areRows (a .code .n) m (rowsOf (a .family) (a .code))) all,
-    )
+    let all : a .count ≡ a .count - 0 = omega arith in
+    (c .good .0 .1 .0 .1, omega arith, ap (λ (m : ℕ). areRows (a .n) m (a .t1)) all)
 
 returns : tie.Need-returns Inv-loop μ-loop
 returns c =
@@ -93,7 +85,8 @@ are-rows-spec =
     Inv-loop
     μ-loop
     loop-holds
-    (λ c κs. search needs)
+    (λ c. search needs)
+    (λ c. search needs)
     (λ c κs. search needs)
     returns
     (λ c κs. search needs)

@@ -56,7 +56,7 @@ heldD c = passed (c .before .between3 .ensures) (c .if3 .left)
 -- ---- the g rows
 
 abbrev dOfG : tie.Else4 → tie.Else3
-dOfG c = c .before .before
+dOfG c = c .before .before .before
 
 abbrev codeG : tie.Else4 → Code
 codeG c = codeD (dOfG c)
@@ -70,14 +70,14 @@ abbrev codeK : tie.After-pair-count → Code
 codeK c = codeG (c .before)
 
 toldX : (c : tie.After-are-rows2)
-    → c .are-rows2 .result ≡ areRows (codeK (c .before) .n) (logicalCount (codeK (c .before))) (codeK (c .before) .x)
+    → let code = codeK (c .before .before) in c .are-rows2 .result ≡ areRows (code .n) (logicalCount code) (code .x)
 unfolding logicalCount
 toldX c =
-    c .are-rows2 .ensures
-    ∙ ap (λ k. areRows (codeK (c .before) .n) k (codeK (c .before) .x)) (c .before .pair-count .ensures)
+    let code = codeK (c .before .before) in
+    c .are-rows2 .ensures ∙ ap (λ k. areRows (code .n) k (code .x)) (c .before .before .pair-count .ensures)
 
 abbrev gOfX : tie.Else5 → tie.Else4
-gOfX c = c .before .before .before
+gOfX c = c .before .before .before .before
 
 abbrev codeX : tie.Else5 → Code
 codeX c = codeG (gOfX c)
@@ -88,15 +88,15 @@ heldX c = passed (toldX (c .before)) (c .if5 .left)
 -- ---- the z rows
 
 toldZ : (c : tie.After-are-rows3)
-    → c .are-rows3 .result ≡ areRows (codeX (c .before) .n) (logicalCount (codeX (c .before))) (codeX (c .before) .z)
+    → let code = codeX (c .before .before) in c .are-rows3 .result ≡ areRows (code .n) (logicalCount code) (code .z)
 unfolding logicalCount
 toldZ c =
-    c .are-rows3 .ensures
-    ∙ ap (λ k. areRows (codeX (c .before) .n) k (codeX (c .before) .z))
-    (c .before .before .before .pair-count .ensures)
+    let x = c .before .before in
+    let code = codeX x in
+    c .are-rows3 .ensures ∙ ap (λ k. areRows (code .n) k (code .z)) (x .before .before .before .pair-count .ensures)
 
 abbrev xOfZ : tie.Else6 → tie.Else5
-xOfZ c = c .before .before
+xOfZ c = c .before .before .before
 
 abbrev codeZ : tie.Else6 → Code
 codeZ c = codeX (xOfZ c)
@@ -116,19 +116,19 @@ returns-3 : tie.Need-returns-3
 returns-3 c = outside _ (failed (c .before .between3 .ensures) (c .if3 .taken)) (λ tests. tests .distance)
 
 are-rows-requires : tie.Need-are-rows-requires
-are-rows-requires c κs = most (nOfR (rOfD c))
+are-rows-requires c κs = most (nOfR (rOfD (c .before)))
 
 returns-4 : tie.Need-returns-4
 returns-4 c = outside _ (failed (c .before .are-rows .ensures) (c .if4 .taken)) (λ tests. tests .generatorRows)
 
 are-rows-requires-2 : tie.Need-are-rows-requires-2
-are-rows-requires-2 c κs = most (nOfR (rOfD (dOfG (c .before))))
+are-rows-requires-2 c κs = most (nOfR (rOfD (dOfG (c .before .before))))
 
 returns-5 : tie.Need-returns-5
 returns-5 c = outside _ (failed (toldX (c .before)) (c .if5 .taken)) (λ tests. tests .xRows)
 
 are-rows-requires-3 : tie.Need-are-rows-requires-3
-are-rows-requires-3 c κs = most (nOfR (rOfD (dOfG (gOfX c))))
+are-rows-requires-3 c κs = most (nOfR (rOfD (dOfG (gOfX (c .before)))))
 
 returns-6 : tie.Need-returns-6
 returns-6 c = outside _ (failed (toldZ (c .before)) (c .if6 .taken)) (λ tests. tests .zRows)

@@ -4,8 +4,8 @@ use native.Mathlib.Omega.{arith}
 use lib.ListN.{length}
 use borrow.Author.Tests.{ltb-false}
 use borrow.Author.Needs.{needs}
-use Rattle.test_calls.proofs.products.read_row.Statement.{statement}
-use Rattle.test_calls.proofs.products.read_row.Tie as tie
+use Rattle.test_calls.proofs.words.read_row.Statement.{statement}
+use Rattle.test_calls.proofs.words.read_row.Tie as tie
 
 abbrev Inv-loop : tie.InvT-loop
 Inv-loop word width sign a₀ b₀ place₀ a b place = (place ≤ width) × (width ≤ 32) × (width < length word)

@@ -1,0 +1,3 @@
+-- What the contracts of the corrections by value cite, and what is stated of them.
+pub mod Corrections
+pub mod Statements

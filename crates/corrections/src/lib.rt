@@ -1,0 +1,42 @@
+// Corrections by value: the earliest error of weight at most t with a syndrome, which is given as a mask.
+use code_record::Code;
+use letter_sums::Found;
+use letter_sums::LetterWords;
+use letter_words::syndrome_words;
+use letters::Sign;
+use pauli::Pauli;
+use search::earliest;
+ghost use mathlib.Core.Path.{_≡_};
+ghost use Rattle.code_record.specs.Record.{radius};
+ghost use Rattle.corrections.specs.Corrections.{correctionBy, correctionFor};
+
+// The correction for a syndrome, with sign +; or none, where no error of weight at most t has the syndrome.
+pub enum Correction {
+    Found(Pauli),
+    None,
+}
+
+// How many struck qubits a record's claimed distance corrects: t. It is 0 where d is 0.
+pub fn radius(code: Code) -> usize
+    ensures { λ r. ⌜ r ≡ radius code ⌝ }
+{
+    if code.d < 1 { 0 } else { (code.d - 1) / 2 }
+}
+
+// The correction of weight at most t for a syndrome, by the words of a code's letters. They are made once, and serve
+// for any number of syndromes. All second words of `syndrome_words` are 0, so with 1 shunned no string is passed over.
+pub fn correct_by(words: LetterWords, t: usize, syndrome: u32) -> Correction
+    ensures { λ r. ⌜ r ≡ correctionBy words t syndrome ⌝ }
+{
+    match earliest(words, t, syndrome, 1) {
+        Found::At { a, b } => Correction::Found(Pauli::signed(Sign::Plus, a, b)),
+        Found::Nothing => Correction::None,
+    }
+}
+
+// The correction that a record has for a syndrome. The first generator's bit is the lowest of the mask.
+pub fn correct(code: Code, syndrome: u32) -> Correction
+    ensures { λ r. ⌜ r ≡ correctionFor code syndrome ⌝ }
+{
+    correct_by(syndrome_words(code), radius(code), syndrome)
+}

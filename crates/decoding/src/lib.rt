@@ -1,0 +1,66 @@
+// The decode call: characters of a syndrome in, letters of its correction out.
+use code_record::Code;
+use corrections::Correction;
+use corrections::correct;
+use decoder::Decoded;
+use pauli::Pauli;
+use record_limits::within_limits;
+use refusals::Refusal;
+use syndrome_reader::SyndromeRead;
+use syndrome_reader::read_syndrome;
+ghost use mathlib.Core.Bool.{true};
+ghost use mathlib.Core.Path.{_≡_};
+ghost use Prim.Native.Nat.{_≤_};
+ghost use lib.ListN.{length};
+ghost use Rattle.pauli.specs.Letters.{letterText};
+ghost use Rattle.code_record.specs.Record.{mostQubits, radius, withinLimits};
+ghost use Rattle.sheet.specs.Text.{laid};
+ghost use Rattle.letter_words.specs.Words.{earliestWith};
+ghost use Rattle.decoder.specs.Correction.{corrected, decode};
+
+// The letters of a Pauli, one for each of n qubits.
+fn letters(n: usize, p: Pauli, out: &mut [u8])
+    requires { ⌜ n ≤ mostQubits ⌝ }
+    requires { ⌜ n ≤ length (now out) ⌝ }
+    ensures { λ _. ⌜ now (out .exit) ≡ laid (letterText n p) (now (out .entry)) ⌝ }
+{
+    let mut place: usize = 0;
+    while place < n {
+        out[place] = p.letter_on(place as u32).byte();
+        place += 1;
+    }
+}
+
+// The correction for a syndrome, as letters, into a buffer that has room for them.
+fn letters_of_correction(code: Code, syndrome: u32, out: &mut [u8]) -> Decoded
+    requires { ⌜ withinLimits code ≡ true ⌝ }
+    requires { ⌜ code .n ≤ length (now out) ⌝ }
+    ensures { λ r. ⌜ r ≡ (corrected (earliestWith code (radius code) syndrome) (now (out .entry))) .answer ⌝ }
+    ensures { λ _.
+        ⌜ now (out .exit) ≡ (corrected (earliestWith code (radius code) syndrome) (now (out .entry))) .buffer ⌝ }
+{
+    let Correction::Found(p) = correct(code, syndrome) else {
+        return Decoded::None;
+    };
+    letters(code.n, p, out);
+    Decoded::Correction
+}
+
+// The correction for a syndrome that is given as characters, into an output buffer: 15 where the record is outside its
+// limits, then 16 where the characters are no syndrome of it, then 17 where the buffer is shorter than n. Then the
+// letters of the correction, and the bytes behind them stay; or `none`. That and a refusal leave the whole buffer.
+pub fn decode(code: Code, characters: &[u8], out: &mut [u8]) -> Decoded
+    ensures { λ r. ⌜ r ≡ (decode code (now (characters .entry)) (now (out .entry))) .answer ⌝ }
+    ensures { λ _. ⌜ now (out .exit) ≡ (decode code (now (characters .entry)) (now (out .entry))) .buffer ⌝ }
+{
+    if !within_limits(code) {
+        return Decoded::Refused(Refusal::RecordLimits);
+    }
+    let SyndromeRead::Mask(syndrome) = read_syndrome(code.r, characters) else {
+        return Decoded::Refused(Refusal::Syndrome(0));
+    };
+    if out.len() < code.n {
+        return Decoded::Refused(Refusal::ShortBuffer);
+    }
+    letters_of_correction(code, syndrome, out)
+}

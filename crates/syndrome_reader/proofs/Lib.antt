@@ -1,0 +1,3 @@
+-- The laws that the proofs of the functions share, and what is stated of the reader.
+pub mod ReadMask
+pub mod Examples
