@@ -3,7 +3,7 @@ use code_record::Code;
 use corrections::Correction;
 use corrections::correct;
 use decoder::Decoded;
-use pauli::Pauli;
+use letters_writer::fill_letters;
 use record_limits::within_limits;
 use refusals::Refusal;
 use syndrome_reader::SyndromeRead;
@@ -12,24 +12,9 @@ ghost use mathlib.Core.Bool.{true};
 ghost use mathlib.Core.Path.{_≡_};
 ghost use Prim.Native.Nat.{_≤_};
 ghost use lib.ListN.{length};
-ghost use Rattle.pauli.specs.Letters.{letterText};
-ghost use Rattle.code_record.specs.Record.{mostQubits, radius, withinLimits};
-ghost use Rattle.sheet.specs.Text.{laid};
+ghost use Rattle.code_record.specs.Record.{radius, withinLimits};
 ghost use Rattle.letter_words.specs.Words.{earliestWith};
 ghost use Rattle.decoder.specs.Correction.{corrected, decode};
-
-// The letters of a Pauli, one for each of n qubits.
-fn letters(n: usize, p: Pauli, out: &mut [u8])
-    requires { ⌜ n ≤ mostQubits ⌝ }
-    requires { ⌜ n ≤ length (now out) ⌝ }
-    ensures { λ _. ⌜ now (out .exit) ≡ laid (letterText n p) (now (out .entry)) ⌝ }
-{
-    let mut place: usize = 0;
-    while place < n {
-        out[place] = p.letter_on(place as u32).byte();
-        place += 1;
-    }
-}
 
 // The correction for a syndrome, as letters, into a buffer that has room for them.
 fn letters_of_correction(code: Code, syndrome: u32, out: &mut [u8]) -> Decoded
@@ -42,7 +27,7 @@ fn letters_of_correction(code: Code, syndrome: u32, out: &mut [u8]) -> Decoded
     let Correction::Found(p) = correct(code, syndrome) else {
         return Decoded::None;
     };
-    letters(code.n, p, out);
+    fill_letters(p, &mut out[..code.n]);
     Decoded::Correction
 }
 

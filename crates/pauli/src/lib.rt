@@ -50,7 +50,7 @@ impl Pauli {
     }
 
     // The letter at a place, which counts from 0: place j is qubit j + 1.
-    pub fn letter_on(self, place: u32) -> Letter
+    pub fn letter_on(self, place: usize) -> Letter
         ensures { λ r. ⌜ r ≡ letterOn place self ⌝ }
     {
         if place < 32 {

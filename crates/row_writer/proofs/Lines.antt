@@ -7,55 +7,32 @@ use mathlib.Core.Path.{_≡_, refl, ap, sym, _∙_}
 use Prim.Native.Nat.{ℕ, _+_, _≤_, _<_}
 use Prim.Native.String.{String}
 use native.Mathlib.Omega.{arith}
-use lib.ListN.{length, take, set, getD, length-append, List·getD-map}
-use lib.Seq.{take-all, sets}
-use Rattle.letters.specs.declared.Letter.the-variants.{I}
+use lib.ListN.{length, take, drop, set, length-append}
+use lib.Seq.{sets}
 use Rattle.pauli.specs.declared.Pauli.{Pauli}
-use Rattle.pauli.specs.Letters.{letterText, letterOn, lettersOf, rowText, signOf}
-use Rattle.letters.specs.Letters.{letterByte, signByte}
+use Rattle.pauli.specs.Letters.{letterText, rowText, signOf}
+use Rattle.letters.specs.Letters.{signByte}
 use Rattle.letters.specs.Lists.{bytes}
-use Rattle.pauli.proofs.Letters.{letters-at}
 use Rattle.refusals.specs.declared.Refusal.{Refusal}
 use Rattle.refusals.specs.declared.Written.{Written}
 use Rattle.code_record.specs.Record.{mostQubits, between}
 use Rattle.code_record.proofs.Limits.{bounds-between}
 use Rattle.sheet.specs.Text.{laid, line, lineFeed, untouched, written}
-use Rattle.sheet.proofs.Laid.{length-taken, byte-laid, sets-laid, set-laid, lent, back, back-laid}
+use Rattle.sheet.proofs.Laid.{sets-laid, set-laid, lent, back, back-laid}
 use Rattle.sheet.proofs.Lengths.{length-letterText, length-rowText}
 use Rattle.sheet.proofs.WrittenText.{refuseIf-true, refuseIf-false, written-fault, written-short, written-whole}
+use Rattle.letters_writer.proofs.Filled.{front-filled}
 use Rattle.row_writer.specs.Lines.{lettersEnd, rowLineText, writeRow, lettersLineText, writeLetters, qubitFault}
 
 -- ---- letters
 
-letter-at : (n place : ℕ) (P : Pauli) → place < n
-    → getD (letterText n P) place (letterByte I) ≡ letterByte (letterOn place P)
-unfolding letterText
-letter-at n place P h = List·getD-map letterByte (lettersOf n P) place I ∙ ap letterByte (letters-at n place P h)
-
--- One more letter of n.
-pub letter-laid : (n place : ℕ) (P : Pauli) (buffer : List ℕ) → place < n → n ≤ length buffer
-    → set (laid (take place (letterText n P)) buffer) place (letterByte (letterOn place P))
-    ≡ laid (take (place + 1) (letterText n P)) buffer
-letter-laid n place P buffer h room =
-    ap (λ (x : ℕ). set (laid (take place (letterText n P)) buffer) place x) (sym (letter-at n place P h))
-    ∙ byte-laid (letterText n P) buffer (omega (arith, length-letterText n P)) place (letterByte I)
-    (omega (arith, length-letterText n P))
-
-pub length-letters-laid : (n place : ℕ) (P : Pauli) (buffer : List ℕ) → place ≤ n → n ≤ length buffer
-    → length (laid (take place (letterText n P)) buffer) ≡ length buffer
-length-letters-laid n place P buffer h room =
-    length-taken (letterText n P) buffer (omega (arith, length-letterText n P)) place
-    (omega (arith, length-letterText n P))
-
-pub letters-whole : (n place : ℕ) (P : Pauli) → n ≤ place → take place (letterText n P) ≡ letterText n P
-letters-whole n place P h = take-all place (letterText n P) (omega (arith, length-letterText n P))
-
--- All letters, and the line feed behind them.
-pub letters-ended : (n place : ℕ) (P : Pauli) (buffer : List ℕ) → n ≤ place → n < length buffer
-    → set (laid (take place (letterText n P)) buffer) n 10 ≡ laid (lettersEnd n P) buffer
+-- The letters, which were filled in at the front, and the line feed behind them.
+pub letters-ended : (n : ℕ) (P : Pauli) (buffer part : List ℕ) → n < length buffer
+    → part ≡ letterText (length (take n buffer)) P
+    → set (part ++ drop n buffer) n 10 ≡ laid (lettersEnd n P) buffer
 unfolding lettersEnd lineFeed
-letters-ended n place P buffer all room =
-    ap (λ (text : List ℕ). set (laid text buffer) n 10) (letters-whole n place P all)
+letters-ended n P buffer part room q =
+    ap (λ (bytes : List ℕ). set bytes n 10) (front-filled n P buffer part (omega arith) q)
     ∙ set-laid (letterText n P) buffer n 10 (sym (length-letterText n P)) room
 
 -- ---- lines

@@ -1,5 +1,6 @@
 // The writers of one row's line: with its sign, as the rows of a sheet and of its canonical generators have it; and
 // without, as w has it and every error and correction.
+use letters_writer::fill_letters;
 use pauli::Pauli;
 use refusals::Refusal;
 use refusals::Written;
@@ -12,15 +13,10 @@ ghost use Rattle.row_writer.specs.Lines.{lettersEnd, rowLineText, writeR
 
 // The letters of a row, one for each of n qubits, and the line feed.
 fn letters_end(out: &mut [u8], n: usize, row: Pauli)
-    requires { ⌜ n ≤ mostQubits ⌝ }
     requires { ⌜ n < length (now out) ⌝ }
     ensures { λ _. ⌜ now (out .exit) ≡ laid (lettersEnd n row) (now (out .entry)) ⌝ }
 {
-    let mut place: usize = 0;
-    while place < n {
-        out[place] = row.letter_on(place as u32).byte();
-        place += 1;
-    }
+    fill_letters(row, &mut out[..n]);
     out[n] = b'\n';
 }
 

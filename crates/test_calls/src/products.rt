@@ -86,6 +86,6 @@ fn print_phase(p: Pauli) {
 
 fn print_letters(p: Pauli, width: u32) {
     for place in 0..width {
-        print(&[p.letter_on(place).byte()]);
+        print(&[p.letter_on(place as usize).byte()]);
     }
 }

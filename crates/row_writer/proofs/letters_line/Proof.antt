@@ -42,7 +42,7 @@ letters-end-requires c κs =
     let a = c .before .before .args in
     let front = a .key ∷ 61 ∷ [] in
     let stored = sets (a .out .now) 0 front in
-    (search needs, omega (arith, room (c .before .before), length-lent 2 stored, length-sets (a .out .now) 0 front))
+    omega (arith, room (c .before .before), length-lent 2 stored, length-sets (a .out .now) 0 front)
 
 same-length : tie.Need-same-length
 same-length c =

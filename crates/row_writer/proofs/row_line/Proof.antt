@@ -57,7 +57,7 @@ letters-end-requires : tie.Need-letters-end-requires
 letters-end-requires c κs =
     let at = c .before in
     let stored = sets (buffer at) 0 (front at) in
-    (search needs, omega (arith, room (start at), length-lent 3 stored, length-sets (buffer at) 0 (front at)))
+    omega (arith, room (start at), length-lent 3 stored, length-sets (buffer at) 0 (front at))
 
 same-length : tie.Need-same-length
 same-length c =

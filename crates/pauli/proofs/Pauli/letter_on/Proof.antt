@@ -19,4 +19,13 @@ returns-2 c =
     rw (no-high-bits 32 (P .a) j (search needs) (omega arith), no-high-bits 32 (P .b) j (search needs) (omega arith))
 
 pub letter-on-spec : {M : Type 1} → statement M
-letter-on-spec = tie.close (tie.spec (λ c. search needs) (λ c. search needs) (λ c κs. search needs) returns returns-2)
+letter-on-spec =
+    tie.close
+    (tie.spec
+    (λ c. search needs)
+    (λ c. search needs)
+    (λ c. search needs)
+    (λ c. search needs)
+    (λ c κs. search needs)
+    returns
+    returns-2)
