@@ -7,18 +7,6 @@ ghost use lib.ListN.{length};
 ghost use Rattle.sheet.specs.Text.{laid, decimal};
 ghost use Rattle.number_writer.specs.Lines.{numberText, writeNumber};
 
-// The bytes of a text.
-fn put(out: &mut [u8], text: &[u8])
-    requires { ⌜ length (now text) ≤ length (now out) ⌝ }
-    ensures { λ _. ⌜ now (out .exit) ≡ laid (now (text .entry)) (now (out .entry)) ⌝ }
-{
-    let mut place: usize = 0;
-    while place < text.len() {
-        out[place] = text[place];
-        place += 1;
-    }
-}
-
 // How many digits a number has.
 pub fn digit_count(m: usize) -> usize
     ensures { λ r. ⌜ r ≡ length (decimal m) ⌝ }
@@ -50,8 +38,7 @@ fn number_line(out: &mut [u8], key: &[u8], m: usize) -> usize
     ensures { λ r. ⌜ r ≡ length (numberText (now (key .entry)) m) ⌝ }
     ensures { λ _. ⌜ now (out .exit) ≡ laid (numberText (now (key .entry)) m) (now (out .entry)) ⌝ }
 {
-    put(out, key);
-    let mut end = key.len();
+    let mut end = text_writer::write_text(key, out).count();
     end += digits(&mut out[end..], m);
     out[end] = b'\n';
     end + 1

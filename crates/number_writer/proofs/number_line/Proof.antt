@@ -6,6 +6,7 @@ use native.Mathlib.Omega.{arith}
 use lib.ListN.{length, set, length-append}
 use Rattle.sheet.specs.Text.{decimal, laid}
 use Rattle.sheet.proofs.Laid.{back, Holds, end-within, room-behind, holds-more, holds-byte}
+use Rattle.sheet.proofs.WrittenText.{written-whole, count-is, content-is}
 use Rattle.number_writer.proofs.Numbers.{number-text, length-numberText}
 use borrow.Author.Needs.{needs}
 use Rattle.number_writer.proofs.number_line.Statement.{statement}
@@ -26,22 +27,33 @@ module _ (c : tie.Start) where
 
 -- ---- behind the key
 
-abbrev start : tie.After-put → tie.Start
-start c = c .before .before .before .before
+module _ (c : tie.After-count) where
+  abbrev start : tie.Start
+  start = c .before .before .before .before .before .before .before
 
-keyed : (c : tie.After-put) → Holds (key (start c)) (buffer (start c)) (c .put .last .0) (length (key (start c)))
-keyed c = record { content = c .put .ensures; count = refl; size = c .put .kept .0 }
+  abbrev keyed-out : List ℕ
+  keyed-out = c .before .before .before .write-text .last .1 .0
+
+  keyed : Holds (key start) (buffer start) keyed-out (c .count .result)
+  keyed =
+      let call = c .before .before .before .write-text in
+      let whole = written-whole (key start) (buffer start) refl (omega (arith, room start)) in
+      record {
+        content = content-is (key start) (buffer start) whole (call .ensures .1);
+        count = count-is (key start) (buffer start) whole (call .ensures .0) (c .count .ensures);
+        size = call .kept .1 .0;
+      }
 
 -- ---- behind the digits
 
-abbrev fronted : tie.After-digits → tie.After-put
-fronted c = c .before .before .before .before
+abbrev fronted : tie.After-digits → tie.After-count
+fronted c = c .before .before
 
 abbrev end : tie.After-digits → ℕ
-end c = length (key (start (fronted c))) + c .digits .result
+end c = fronted c .count .result + c .digits .result
 
 abbrev out : tie.After-digits → List ℕ
-out c = back (length (key (start (fronted c)))) (fronted c .put .last .0) (c .digits .last .0)
+out c = back (fronted c .count .result) (keyed-out (fronted c)) (c .digits .last .0)
 
 module _ (c : tie.After-digits) where
   abbrev s : tie.Start
@@ -52,25 +64,22 @@ module _ (c : tie.After-digits) where
       holds-more (keyed (fronted c)) (digits s) (c .digits .ensures .0) (c .digits .ensures .1) (c .digits .kept .0)
 
   inside : end c < length (buffer s)
-  inside = omega (arith, room s, c .digits .ensures .0)
+  inside = omega (arith, room s, keyed (fronted c) .count, c .digits .ensures .0)
 
   ended : Holds ((key s ++ digits s) ++ 10 ∷ []) (buffer s) (set (out c) (end c) 10) (end c + 1)
   ended = holds-byte numbered 10 (omega (arith, inside, numbered .size))
 
 -- ---- the needs
 
-put-requires : tie.Need-put-requires
-put-requires c κs = omega (arith, room (c .before .before .before))
-
 sub-digits : tie.Need-sub-digits
-sub-digits c = let p = c .before .before in end-within (keyed p) (omega (arith, room (start p)))
+sub-digits c = end-within (keyed c) (omega (arith, room (start c)))
 
 part-digits-start : tie.Need-part-digits-start
 part-digits-start c = sub-digits c
 
 digits-requires : tie.Need-digits-requires
 digits-requires c κs =
-    let p = c .before .before .before in
+    let p = c .before in
     let s = start p in
     room-behind (keyed p) (digits s) (omega (arith, room s, length-append (key s) (digits s)))
 
@@ -96,7 +105,8 @@ pub number-line-spec : {M : Type 1} → statement M
 number-line-spec =
     tie.close
     (tie.spec
-    put-requires
+    (λ c κs. search needs)
+    (λ c κs. search needs)
     sub-digits
     part-digits-start
     (λ c. search needs)

@@ -7,8 +7,8 @@ use lib.Seq.{take-all}
 use Rattle.sheet.specs.Text.{laid}
 use Rattle.sheet.proofs.Laid.{laid-nothing, length-taken, byte-laid}
 use borrow.Author.Needs.{needs}
-use Rattle.number_writer.proofs.put.Statement.{statement}
-use Rattle.number_writer.proofs.put.Tie as tie
+use Rattle.text_writer.proofs.put.Statement.{statement}
+use Rattle.text_writer.proofs.put.Tie as tie
 
 abbrev Inv-loop : tie.InvT-loop
 Inv-loop out₀ text place₀ out place = (place ≤ length text) × (out ≡ laid (take place text) out₀)
