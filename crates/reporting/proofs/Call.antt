@@ -15,18 +15,17 @@ use Rattle.reporting.proofs.Fits.{report-fits}
 
 pub is-reported : (input text : List ℕ) → reportText input ≡ text → IsReported input text
 unfolding writeReport
-is-reported input text e = record {
-  written = λ buffer room. call buffer ∙ written-whole text buffer refl (enough buffer room);
-  short = λ buffer small. call buffer ∙ written-short text buffer refl small;
+is-reported input text e buffer = record {
+  written = λ room. call ∙ written-whole text buffer refl (enough room);
+  short = λ small. call ∙ written-short text buffer refl small;
 }
   where
-    call : (buffer : List ℕ) → written none (reportText input) buffer ≡ written none text buffer
-    call buffer = ap (λ (t : List ℕ). written none t buffer) e
+    call : written none (reportText input) buffer ≡ written none text buffer
+    call = ap (λ (t : List ℕ). written none t buffer) e
 
-    enough : (buffer : List ℕ) → (longestReport ≤ length buffer) ⊎ (length text ≤ length buffer)
-        → length text ≤ length buffer
-    enough buffer (inl h) = omega (arith, report-fits input, ap length e)
-    enough buffer (inr h) = h
+    enough : (longestReport ≤ length buffer) ⊎ (length text ≤ length buffer) → length text ≤ length buffer
+    enough (inl h) = omega (arith, report-fits input, ap length e)
+    enough (inr h) = h
 
 pub report-is-written : ReportIsWritten
 report-is-written input = is-reported input (reportText input) refl

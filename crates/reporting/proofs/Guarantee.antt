@@ -12,10 +12,11 @@ use Rattle.pauli.specs.Syndrome.{syndrome}
 use Rattle.code_record.specs.declared.Code.{Code}
 use Rattle.refusals.specs.declared.ErrorPair.{ErrorPair}
 use Rattle.refusals.specs.declared.Refusal.{Refusal}
+use Rattle.refusals.specs.declared.Written.{Written}
 use Rattle.code_record.specs.Record.{generators, longestInput}
 use Rattle.refusals.specs.Refusals.{values, _then_}
 use Rattle.sheet.specs.Reader.{SheetRead}
-use Rattle.sheet.specs.Text.{lineFeed, line, digitsOf, decimal}
+use Rattle.sheet.specs.Text.{lineFeed, line, digitsOf, decimal, After}
 use Rattle.stabilizer.proofs.All.{all-every, all-mapped}
 use Rattle.admission.specs.declared.Admission.{Admission}
 use Rattle.admission.specs.Admission.{AdmissibleButForDistance, codeFault, readSheet}
@@ -26,9 +27,9 @@ use Rattle.admission.proofs.RefutingPair.{refusal-is-distance-fault, refuting-p
 use Rattle.decoder.specs.Statements.{IsCorrected, Refutes, RefusedForDistance, Shows}
 use Rattle.decoder.proofs.Bits.{syndromes-have-r-bits}
 use Rattle.decoder.proofs.Guarantee.{errors-are-corrected, distance-is-decided}
-use Rattle.reporting.specs.Report.{errorsText, refusalText, correctionLine, codeText, reportText}
+use Rattle.reporting.specs.Report.{errorsText, refusalText, correctionLine, codeText, reportText, writeReport}
 use Rattle.reporting.specs.Statements.{syndromeLineText, Struck, errorLines, correctedLines, refutationText}
-use Rattle.reporting.specs.Statements.{RefutationIsReported, GuaranteeInReports}
+use Rattle.reporting.specs.Statements.{CorrectsInReport, RefutesInReport, GuaranteeInReports}
 use Rattle.reporting.proofs.Call.{is-reported}
 use Rattle.reporting.proofs.Lists.{lines-of-mapped, same-lines}
 use Rattle.reporting.proofs.Report.{corrections-are-reported, refusals-are-reported}
@@ -92,22 +93,39 @@ module _
       Option·some-injective (shows .pair) (earliest .pair)
       (sym (shows .carried) ∙ ap (λ r. values r .errors) (earliest .told))
 
-  refuted-reported : RefutationIsReported q (s ++ rest)
-  refuted-reported =
+  refuted-reported : (buffer : List ℕ) → RefutesInReport q buffer (writeReport (s ++ rest) buffer)
+  refuted-reported buffer =
       let pair = earliest .pair in
       let qubits : pair .n ≡ q .code .n = ap (λ (p : ErrorPair). p .n) (sym same-pair) ∙ shows .qubits in
       record {
         pair = pair;
         refutes = subst (λ (p : ErrorPair). Refutes (q .code) (p .e) (p .f)) same-pair (shows .refutes);
         from = earliest .from;
-        report = is-reported (s ++ rest) (refutationText q pair)
+        writes = is-reported (s ++ rest) (refutationText q pair)
             (refusals-are-reported s rest q refusal (lawful .form) code-fault few
-            ∙ ap refusalText (earliest .told) ∙ refutation-text q pair qubits);
+            ∙ ap refusalText (earliest .told) ∙ refutation-text q pair qubits) buffer;
       }
 
+-- ---- of every input
+
+-- What holds of this input holds of one that is equal to it.
+module _ (input whole buffer : List ℕ) (e : input ≡ whole) where
+  abbrev left : After Written
+  left = writeReport whole buffer
+
+  as-input : (P : After Written → Type 0) → P left → P (writeReport input buffer)
+  as-input P = subst (λ (t : List ℕ). P (writeReport t buffer)) (sym e)
+
 pub guarantee-in-reports : GuaranteeInReports
-guarantee-in-reports = record {
-  corrected = struck-corrected;
-  reported = λ s h errors few. is-reported _ _ (corrections-reported s h errors few);
-  refuted = refuted-reported;
+guarantee-in-reports input buffer = record {
+  corrected = λ s h errors e few. as-input input _ buffer e (CorrectsInReport (readSheet s .code) errors buffer)
+      (record {
+        corrected = struck-corrected s h;
+        writes = is-reported _ _ (corrections-reported s h errors (short e few)) buffer;
+      });
+  refuted = λ s rest q refusal lawful refused e few. as-input input _ buffer e (RefutesInReport q buffer)
+      (refuted-reported s rest q refusal lawful refused (short e few) buffer);
 }
+  where
+    short : {whole : List ℕ} → input ≡ whole → length input ≤ longestInput → length whole ≤ longestInput
+    short e few = subst (λ (t : List ℕ). length t ≤ longestInput) e few

@@ -1,5 +1,5 @@
--- The starred sheets: every entry of the table is right, the answer of the sheet read by itself and the bytes of
--- its report. Each is computed from the definitions.
+-- The starred sheets: every entry of the table is right, the answer of the sheet read by itself, the bytes of its
+-- report, and with them what the report's call writes. Each is computed from the definitions.
 use mathlib.Core.List.{List·Memᴰ}
 use mathlib.Core.Path.{_≡_, refl}
 use Prim.Native.String.{_++_}
@@ -10,10 +10,13 @@ use Rattle.admission.specs.Admission.{admissionRefusal, readSheet}
 use Rattle.admission.proofs.Starred.{starred-answers}
 use Rattle.reporting.specs.Definitions.{definitions}
 use Rattle.reporting.specs.Report.{reportText}
+use Rattle.reporting.specs.Statements.{IsReported}
+use Rattle.reporting.proofs.Call.{is-reported}
 
 pub record Right (e : Entry) : Type 0 where
   pub answer : admissionRefusal (readSheet (bytes (e .sheet)) .answer) ≡ e .refusal
   pub report : reportText (bytes (e .sheet ++ e .behind)) ≡ bytes (e .report)
+  pub call : IsReported (bytes (e .sheet ++ e .behind)) (bytes (e .report))
 
 starred-reports : (e : Entry) → List·Memᴰ e starred → reportText (bytes (e .sheet ++ e .behind)) ≡ bytes (e .report)
 unfolding definitions
@@ -21,4 +24,8 @@ starred-reports = each (λ e. reportText (bytes (e .sheet ++ e .behind))) (λ e.
 
 -- Every starred sheet has the answer and the report that the table gives it.
 pub starred-right : (e : Entry) → List·Memᴰ e starred → Right e
-starred-right e m = record { answer = starred-answers e m; report = starred-reports e m }
+starred-right e m = record {
+  answer = starred-answers e m;
+  report = starred-reports e m;
+  call = is-reported _ _ (starred-reports e m);
+}

@@ -20,7 +20,7 @@ use Rattle.code_record.specs.Record.{generators, onQubits, radius, longestInput
 use Rattle.refusals.specs.Refusals.{writtenRefusal}
 use Rattle.sheet.specs.Reader.{SheetRead, got, stop, readLines, readForm}
 use Rattle.sheet.specs.Statements.{RefusalLeaves, Among}
-use Rattle.sheet.specs.Text.{line, decimal, laid, untouched}
+use Rattle.sheet.specs.Text.{line, decimal, After, laid, untouched}
 use Rattle.admission.specs.declared.Admission.{Admission}
 use Rattle.admission.specs.Admission.{AdmissibleButForDistance, codeFault, admitted, readSheet}
 use Rattle.admission.specs.Statements.{FromEarliest}
@@ -34,13 +34,16 @@ use Rattle.reporting.specs.Report.{longestReport, codeText, correctionLi
 abbrev pub ReportFits : Type 0
 ReportFits = (s : List ℕ) → length (reportText s) ≤ longestReport
 
--- The call writes this text and answers its length, in every buffer that holds the longest report and in every one that
--- is as long as the text; a shorter one is refused with 17.
-pub record IsReported (input text : List ℕ) : Type 0 where
-  pub written : (buffer : List ℕ) → (longestReport ≤ length buffer) ⊎ (length text ≤ length buffer)
-      → writeReport input buffer ≡ record { answer = Written.Count (length text); buffer = laid text buffer }
-  pub short : (buffer : List ℕ) → length buffer < length text
-      → writeReport input buffer ≡ untouched (Written.Refused Refusal.ShortBuffer) buffer
+-- What a call left that has this text to write: the text, with its length for an answer, in every buffer that holds the
+-- longest report and in every one that is as long as the text; a shorter one is refused with 17, and is as it was.
+pub record WritesReport (text buffer : List ℕ) (after : After Written) : Type 0 where
+  pub written : (longestReport ≤ length buffer) ⊎ (length text ≤ length buffer)
+      → after ≡ record { answer = Written.Count (length text); buffer = laid text buffer }
+  pub short : length buffer < length text → after ≡ untouched (Written.Refused Refusal.ShortBuffer) buffer
+
+-- The report's call has this text to write, whatever buffer it is lent.
+abbrev pub IsReported : List ℕ → List ℕ → Type 0
+IsReported input text = (buffer : List ℕ) → WritesReport text buffer (writeReport input buffer)
 
 abbrev pub ReportIsWritten : Type 0
 ReportIsWritten = (input : List ℕ) → IsReported input (reportText input)
@@ -161,24 +164,33 @@ refutationText q pair =
     bytes "r=14\n" ++ line "at=" (decimal (q .claimAt)) ++ line "e=" (letterText (q .code .n) (pair .e))
     ++ line "f=" (letterText (q .code .n) (pair .f))
 
--- The report has those four lines and no other, with two errors that refute the distance, from the earliest logical
--- error.
-pub record RefutationIsReported (q : SheetRead) (input : List ℕ) : Type 0 where
+-- ---- the guarantee
+
+-- RULES, "Guarantees": what a report's call left that shows corrections of errors. Behind the account of the code each
+-- error has a `c=` line with the letters of its correction.
+pub record CorrectsInReport (c : Code) (errors : List (Struck c)) (buffer : List ℕ) (after : After Written)
+    : Type 0 where
+  pub corrected : (E : Struck c) → IsCorrected c (E .error)
+  pub writes : WritesReport (codeText c ++ correctedLines c corrected errors) buffer after
+
+-- RULES, "Guarantees": what a report's call left that refutes a distance. The report has those four lines and no other,
+-- with two errors that refute the distance, from the earliest logical error.
+pub record RefutesInReport (q : SheetRead) (buffer : List ℕ) (after : After Written) : Type 0 where
   pub pair : ErrorPair
   pub refutes : Refutes (q .code) (pair .e) (pair .f)
   pub from : FromEarliest (q .code) pair
-  pub report : IsReported input (refutationText q pair)
+  pub writes : WritesReport (refutationText q pair) buffer after
 
--- RULES, "Guarantees": the third one, of the report's call. Behind an admitted sheet, the syndrome of each error that
--- strikes at most t qubits has a `c=` line with the letters of its correction. A sheet that is admissible but for
--- distance and that 14 refuses has a refutation as its report, whatever stands behind it.
-pub record GuaranteeInReports : Type 0 where
-  pub corrected : (s : List ℕ) → readSheet s .answer ≡ Admission.Admitted → (E : Struck (readSheet s .code))
-      → IsCorrected (readSheet s .code) (E .error)
-  pub reported : (s : List ℕ) (h : readSheet s .answer ≡ Admission.Admitted)
-      (errors : List (Struck (readSheet s .code)))
-      → length (s ++ errorLines (readSheet s .code) errors) ≤ longestInput
-      → IsReported (s ++ errorLines (readSheet s .code) errors)
-      (codeText (readSheet s .code) ++ correctedLines (readSheet s .code) (corrected s h) errors)
+-- RULES, "Guarantees": the third one, of what a report's call left of its buffer. Where the input is an admitted sheet
+-- and the syndromes of errors that strike at most t qubits each, their corrections are shown. Where it is a sheet that
+-- is admissible but for distance and that 14 refuses, with anything behind it, its distance is refuted.
+pub record GuaranteedReport (input buffer : List ℕ) (after : After Written) : Type 0 where
+  pub corrected : (s : List ℕ) → readSheet s .answer ≡ Admission.Admitted
+      → (errors : List (Struck (readSheet s .code))) → input ≡ s ++ errorLines (readSheet s .code) errors
+      → length input ≤ longestInput → CorrectsInReport (readSheet s .code) errors buffer after
   pub refuted : (s rest : List ℕ) (q : SheetRead) (refusal : Refusal) → AdmissibleButForDistance s q
-      → RefusedForDistance s refusal → length (s ++ rest) ≤ longestInput → RefutationIsReported q (s ++ rest)
+      → RefusedForDistance s refusal → input ≡ s ++ rest → length input ≤ longestInput
+      → RefutesInReport q buffer after
+
+abbrev pub GuaranteeInReports : Type 0
+GuaranteeInReports = (input buffer : List ℕ) → GuaranteedReport input buffer (writeReport input buffer)
