@@ -9,9 +9,9 @@ use lib.ListN.{getD}
 use Rattle.letters.specs.Lists.{readByte}
 use Rattle.line_kinds.specs.declared.LineKind.{LineKind}
 use Rattle.line_kinds.specs.declared.LineKind.the-variants.{Qubits, Distance, Generator, LogicalX, LogicalZ}
-use Rattle.line_kinds.specs.declared.LineKind.the-variants.{Claim, Other}
+use Rattle.line_kinds.specs.declared.LineKind.the-variants.{Claim, Syndrome, Other}
 
--- RULES, "The sheet": each kind of line has its key. The byte of the key; a line of another kind has none.
+-- RULES, "The sheet" and "The report": each kind of line has its key. The byte of the key; a line of another kind has none.
 abbrev pub kindByte : LineKind → ℕ
 kindByte Qubits = code "n"
 kindByte Distance = code "d"
@@ -19,6 +19,7 @@ kindByte Generator = code "g"
 kindByte LogicalX = code "x"
 kindByte LogicalZ = code "z"
 kindByte Claim = code "w"
+kindByte Syndrome = code "s"
 kindByte Other = 0
 
 -- The key itself.
@@ -31,7 +32,7 @@ orOther (some kind) = kind
 
 -- The kind that has this byte as its key.
 abbrev pub kinds : List LineKind
-kinds = Qubits ∷ Distance ∷ Generator ∷ LogicalX ∷ LogicalZ ∷ Claim ∷ []
+kinds = Qubits ∷ Distance ∷ Generator ∷ LogicalX ∷ LogicalZ ∷ Claim ∷ Syndrome ∷ []
 
 unfoldable pub kindOf : ℕ → LineKind
 kindOf c = orOther (readByte kindByte kinds c)

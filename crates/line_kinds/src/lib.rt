@@ -1,4 +1,4 @@
-// The kinds of a sheet's lines, which their keys tell.
+// The kinds of lines in a sheet and behind it, which their keys tell.
 use refusals::Family;
 ghost use mathlib.Core.Path.{_≡_};
 ghost use Rattle.letters.specs.Lists.{bytes};
@@ -14,6 +14,7 @@ pub enum LineKind {
     LogicalX,
     LogicalZ,
     Claim,
+    Syndrome,
     Other,
 }
 
@@ -34,6 +35,7 @@ pub fn line_kind(s: &[u8]) -> LineKind
         b'x' => LineKind::LogicalX,
         b'z' => LineKind::LogicalZ,
         b'w' => LineKind::Claim,
+        b's' => LineKind::Syndrome,
         _ => LineKind::Other,
     }
 }
