@@ -29,6 +29,8 @@ mod questions;
 mod random;
 mod record;
 mod report;
+#[cfg(test)]
+mod sample_files;
 mod samples;
 mod sheet;
 mod strings;
