@@ -131,7 +131,11 @@ fn faces(colour: usize) -> Matrix {
     };
     let places = (0..=3).flat_map(|i| (0..=3).map(move |j| (i, j)));
     let of_colour = places.filter(|(i, j)| (i + j) % 2 == colour);
-    let kept = of_colour.filter(|(i, j)| (1..=2).contains([j, i][colour]));
+    let is_kept = |(i, j): &(usize, usize)| match colour {
+        0 => (1..=2).contains(j),
+        _ => (1..=2).contains(i),
+    };
+    let kept = of_colour.filter(is_kept);
     Matrix(kept.map(|(i, j)| face(i, j)).collect())
 }
 
