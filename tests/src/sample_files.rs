@@ -121,8 +121,8 @@ fn published_codes_have_the_generators_that_are_printed() {
     }
 }
 
-/// The faces of one colour, each with ones at the qubits at its corners. The qubits are a grid of three by three. Of the
-/// faces on the border those at the top and the bottom are even, and those at the sides odd.
+/// The faces of one colour, each with ones at the qubits at its corners. The qubits are a grid of three by three. The
+/// faces at its top and its bottom are even, and those at its sides odd.
 fn faces(colour: usize) -> Matrix {
     let face = |i: usize, j: usize| {
         let touches = |at: usize, side: usize| at == side || at + 1 == side;
