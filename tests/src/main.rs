@@ -4,8 +4,9 @@
 //!
 //! `independent cases` writes a selection of the cases, and `independent answers` reads cases and writes an answer
 //! for each: these two make crates/test_calls/stdin and crates/test_calls/stdout. `independent compare PROGRAM` runs
-//! the program on all cases and compares its answers. `independent benchmark PROGRAM` is no test: it prints how long
-//! searches take in the program, beside the same made here.
+//! the program on all cases and compares its answers. `independent report` reads an input of a report and writes the
+//! report. `independent benchmark PROGRAM` is no test: it prints how long searches take in the program, beside the same
+//! made here.
 
 mod admission;
 mod answers;
@@ -27,6 +28,9 @@ mod published;
 mod questions;
 mod random;
 mod record;
+mod report;
+#[cfg(test)]
+mod sample_files;
 mod samples;
 mod sheet;
 mod strings;
@@ -42,12 +46,14 @@ fn main() -> ExitCode {
     match arguments[..] {
         ["cases"] => write(parts::selection().iter().flat_map(Case::bytes)),
         ["answers"] => write(cases::read(&input()).iter().flat_map(answers::answer)),
+        ["report"] => write(report::report(&input()).into_iter()),
         ["compare", program] => return compare::compare(Path::new(program)),
         ["benchmark"] => benchmark::benchmark(None),
         ["benchmark", program] => benchmark::benchmark(Some(Path::new(program))),
         _ => {
             eprintln!(
-                "cases; or answers, with cases on standard input; or compare and a program; or benchmark and a program"
+                "cases; or answers, with cases on standard input; or compare and a program; or report, with a sheet on \
+                 standard input; or benchmark and a program"
             );
             return ExitCode::FAILURE;
         }
