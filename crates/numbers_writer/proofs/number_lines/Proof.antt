@@ -48,8 +48,8 @@ module _ (c : tie.After-count) where
   abbrev out : List ℕ
   out = c .before .before .before .write-number .last .1 .1 .0
 
-  behind-first : Holds (line start) (buffer start) out (c .count .result)
-  behind-first =
+  fronted : Holds (line start) (buffer start) out (c .count .result)
+  fronted =
       let call = c .before .before .before .write-number in
       let whole = number-has-room (key start) (start .args .first) (buffer start) (fits-first start) in
       record {
@@ -59,29 +59,29 @@ module _ (c : tie.After-count) where
       }
 
   inside : c .count .result ≤ length out
-  inside = end-within behind-first (fits-first start)
+  inside = end-within fronted (fits-first start)
 
 -- ---- behind the second
 
 module _ (c : tie.After-count2) where
-  abbrev at-first : tie.After-count
-  at-first = c .before .before .before .before .before
+  abbrev front : tie.After-count
+  front = c .before .before .before .before .before
 
   abbrev s : tie.Start
-  s = start at-first
+  s = start front
 
   abbrev end : ℕ
-  end = at-first .count .result
+  end = front .count .result
 
   behind-second : Holds (text s) (buffer s)
-      (back end (out at-first) (c .before .before .before .write-number2 .last .1 .1 .0))
+      (back end (out front) (c .before .before .before .write-number2 .last .1 .1 .0))
       (end + c .count2 .result)
   behind-second =
       let call = c .before .before .before .write-number2 in
-      let part = lent end (out at-first) in
-      let whole = number-has-room (key′ s) (s .args .second) part (room-behind (behind-first at-first) (line′ s) (fits s)) in
+      let part = lent end (out front) in
+      let whole = number-has-room (key′ s) (s .args .second) part (room-behind (fronted front) (line′ s) (fits s)) in
       holds-as
-      (holds-more (behind-first at-first) (line′ s) (count-is (line′ s) part whole (call .ensures .0) (c .count2 .ensures))
+      (holds-more (fronted front) (line′ s) (count-is (line′ s) part whole (call .ensures .0) (c .count2 .ensures))
       (content-is (line′ s) part whole (call .ensures .1)) (call .kept .1 .1 .0))
       (numbers-text (key s) (s .args .first) (key′ s) (s .args .second))
 
