@@ -1,5 +1,5 @@
--- What is stated of the lines of two numbers: the call is `written` with its checks, so the laws of every such call hold
--- of it.
+-- What is stated of the lines of two numbers: the call is `written` with its checks, so the laws of every such call
+-- hold of it.
 use mathlib.Core.Path.{refl}
 use Rattle.letters.specs.Lists.{anyOf}
 use Rattle.sheet.proofs.Numbers.{IfRefused, law-of-refusal, written-lawful}

@@ -1,6 +1,6 @@
 -- The room behind the key, then behind the digits and the line feed: where either does not fit, none is left.
 use mathlib.Core.Path.{_≡_}
-use Prim.Native.Nat.{ℕ, _+_}
+use Prim.Native.Nat.{_+_}
 use native.Mathlib.Omega.{arith}
 use lib.ListN.{length}
 use Rattle.number_writer.specs.Lines.{numberText}
