@@ -1,5 +1,5 @@
--- What is stated of the lines of n and d: the call is `written` with its checks, so the laws of every such call hold of
--- it.
+-- What is stated of the lines of two numbers: the call is `written` with its checks, so the laws of every such call
+-- hold of it.
 use mathlib.Core.Path.{refl}
 use Rattle.letters.specs.Lists.{anyOf}
 use Rattle.sheet.proofs.Numbers.{IfRefused, law-of-refusal, written-lawful}
@@ -9,8 +9,8 @@ use Rattle.numbers_writer.specs.Statements.{NumbersRefusalsLeave, Number
 
 pub numbers-refusals-leave : NumbersRefusalsLeave
 unfolding writeNumbers
-numbers-refusals-leave n d buffer = written-leaves _ _ buffer
+numbers-refusals-leave key m key′ m′ buffer = written-leaves _ _ buffer
 
 pub numbers-refusal-numbers : NumbersRefusalNumbers
 unfolding writeNumbers anyOf
-numbers-refusal-numbers n d buffer = law-of-refusal (written-lawful _ buffer IfRefused.unrefused refl)
+numbers-refusal-numbers key m key′ m′ buffer = law-of-refusal (written-lawful _ buffer IfRefused.unrefused refl)

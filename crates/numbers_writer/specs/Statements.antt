@@ -1,4 +1,4 @@
--- What is stated of the lines of n and d.
+-- What is stated of the lines of two numbers.
 use mathlib.Core.List.{List, [], _∷_}
 use mathlib.Core.Option.{some}
 use mathlib.Core.Path.{_≡_}
@@ -11,10 +11,11 @@ use Rattle.numbers_writer.specs.Numbers.{writeNumbers}
 -- RULES, "Calls and buffers": a refusal leaves the buffer as it was.
 abbrev pub NumbersRefusalsLeave : Type 0
 NumbersRefusalsLeave =
-    (n d : ℕ) (buffer : List ℕ) → RefusalLeaves writtenRefusal buffer (writeNumbers n d buffer)
+    (key : List ℕ) (m : ℕ) (key′ : List ℕ) (m′ : ℕ) (buffer : List ℕ)
+    → RefusalLeaves writtenRefusal buffer (writeNumbers key m key′ m′ buffer)
 
 -- RULES, "Calls and buffers": the number with which the call refuses.
 abbrev pub NumbersRefusalNumbers : Type 0
 NumbersRefusalNumbers =
-    (n d : ℕ) (buffer : List ℕ) (refusal : Refusal)
-    → writtenRefusal (writeNumbers n d buffer .answer) ≡ some refusal → Among (17 ∷ []) refusal
+    (key : List ℕ) (m : ℕ) (key′ : List ℕ) (m′ : ℕ) (buffer : List ℕ) (refusal : Refusal)
+    → writtenRefusal (writeNumbers key m key′ m′ buffer .answer) ≡ some refusal → Among (17 ∷ []) refusal

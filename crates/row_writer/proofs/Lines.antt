@@ -17,10 +17,11 @@ use Rattle.refusals.specs.declared.Refusal.{Refusal}
 use Rattle.refusals.specs.declared.Written.{Written}
 use Rattle.code_record.specs.Record.{mostQubits, between}
 use Rattle.code_record.proofs.Limits.{bounds-between}
-use Rattle.sheet.specs.Text.{laid, line, lineFeed, untouched, written}
+use Rattle.sheet.specs.Text.{laid, line, lineFeed}
 use Rattle.sheet.proofs.Laid.{sets-laid, set-laid, lent, back, back-laid}
 use Rattle.sheet.proofs.Lengths.{length-letterText, length-rowText}
-use Rattle.sheet.proofs.WrittenText.{refuseIf-true, refuseIf-false, written-fault, written-short, written-whole}
+use Rattle.sheet.proofs.WrittenText.{refuseIf-true, refuseIf-false, written-whole, Answers}
+use Rattle.sheet.proofs.WrittenText.{answers-fault, answers-short, answers-whole}
 use Rattle.letters_writer.proofs.Filled.{front-filled}
 use Rattle.row_writer.specs.Lines.{lettersEnd, rowLineText, writeRow, lettersLineText, writeLetters, qubitFault}
 
@@ -94,25 +95,16 @@ module _ (key n : ℕ) (P : Pauli) (buffer : List ℕ) (low : 2 ≤ n) (high : n
 
 -- What the two calls have to answer, as their code tells it.
 module _ (n : ℕ) (text buffer : List ℕ) where
-  abbrev Answers : Written → List ℕ → Type 0
-  Answers answer after =
-      (answer ≡ (written (qubitFault n) text buffer) .answer) × (after ≡ (written (qubitFault n) text buffer) .buffer)
-
-  pub outside-limits : between 2 mostQubits n ≡ false → Answers (Written.Refused Refusal.RecordLimits) buffer
-  unfolding untouched qubitFault
-  outside-limits h =
-      let e = sym (written-fault text buffer (refuseIf-true _ (ap not h))) in
-      (ap (λ after. after .answer) e, ap (λ after. after .buffer) e)
+  pub outside-limits : between 2 mostQubits n ≡ false
+      → Answers (qubitFault n) text buffer (Written.Refused Refusal.RecordLimits) buffer
+  unfolding qubitFault
+  outside-limits h = answers-fault text buffer (refuseIf-true _ (ap not h))
 
   module _ (low : 2 ≤ n) (high : n ≤ mostQubits) where
-    pub too-short : length buffer < length text → Answers (Written.Refused Refusal.ShortBuffer) buffer
-    unfolding untouched
-    too-short h =
-        let e = sym (written-short text buffer (qubits-within n low high) h) in
-        (ap (λ after. after .answer) e, ap (λ after. after .buffer) e)
+    pub too-short : length buffer < length text
+        → Answers (qubitFault n) text buffer (Written.Refused Refusal.ShortBuffer) buffer
+    too-short = answers-short text buffer (qubits-within n low high)
 
     pub has-room : length text ≤ length buffer → {count : ℕ} {after : List ℕ} → count ≡ length text
-        → after ≡ laid text buffer → Answers (Written.Count count) after
-    has-room h count content =
-        let e = sym (written-whole text buffer (qubits-within n low high) h) in
-        (ap Written.Count count ∙ ap (λ after. after .answer) e, content ∙ ap (λ after. after .buffer) e)
+        → after ≡ laid text buffer → Answers (qubitFault n) text buffer (Written.Count count) after
+    has-room = answers-whole text buffer (qubits-within n low high)

@@ -3,7 +3,7 @@
 use mathlib.Core.Bool.{Bool, true, false, not}
 use mathlib.Core.List.{List}
 use mathlib.Core.Option.{Option, none, some}
-use mathlib.Core.Path.{_≡_, ap, _∙_}
+use mathlib.Core.Path.{_≡_, ap, sym, _∙_}
 use Prim.Native.Nat.{ℕ, _≤_, _<_}
 use borrow.Author.Tests.{lt-ltb, le-ltb}
 use lib.ListN.{length}
@@ -51,6 +51,30 @@ module _ {fault : Option Refusal} (text buffer : List ℕ) where
       → written fault text buffer ≡ record { answer = Written.Count (length text); buffer = laid text buffer }
   unfolding written guarded _then_ roomFault
   written-whole e h = rw (e, refuseIf-false _ (le-ltb (length buffer) (length text) h))
+
+-- What such a call has to answer, as its code tells it.
+abbrev pub Answers : Option Refusal → List ℕ → List ℕ → Written → List ℕ → Type 0
+Answers fault text buffer answer after =
+    (answer ≡ (written fault text buffer) .answer) × (after ≡ (written fault text buffer) .buffer)
+
+module _ {fault : Option Refusal} (text buffer : List ℕ) where
+  pub answers-fault : {refusal : Refusal} → fault ≡ some refusal
+      → Answers fault text buffer (Written.Refused refusal) buffer
+  unfolding untouched
+  answers-fault h =
+      let e = sym (written-fault text buffer h) in (ap (λ after. after .answer) e, ap (λ after. after .buffer) e)
+
+  pub answers-short : fault ≡ none → length buffer < length text
+      → Answers fault text buffer (Written.Refused Refusal.ShortBuffer) buffer
+  unfolding untouched
+  answers-short h short =
+      let e = sym (written-short text buffer h short) in (ap (λ after. after .answer) e, ap (λ after. after .buffer) e)
+
+  pub answers-whole : fault ≡ none → length text ≤ length buffer → {count : ℕ} {after : List ℕ} → count ≡ length text
+      → after ≡ laid text buffer → Answers fault text buffer (Written.Count count) after
+  answers-whole h room count content =
+      let e = sym (written-whole text buffer h room) in
+      (ap Written.Count count ∙ ap (λ after. after .answer) e, content ∙ ap (λ after. after .buffer) e)
 
 -- What a call with room counted, and what it left of the buffer.
 module _

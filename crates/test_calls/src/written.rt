@@ -46,7 +46,7 @@ fn write_into(writer: Writer, code: Code, out: &mut [u8]) {
 fn written(writer: Writer, code: Code, out: &mut [u8]) -> Written {
     match writer {
         Writer::Sheet => writer::write_sheet(code, out),
-        Writer::Numbers => numbers_writer::write_numbers(code.n, code.d, out),
+        Writer::Numbers => numbers_writer::write_numbers(b"n=", code.n, b"d=", code.d, out),
         Writer::Families => families_writer::write_families(code, out),
         Writer::Canonical => canonical::write_canonical(code, out),
         Writer::Row(row) => row_writer::write_row(b'h', code.n, row, out),

@@ -18,7 +18,7 @@ fn sheet_lines(out: &mut [u8], code: Code) -> usize
     ensures { λ r. ⌜ r ≡ length (sheetText code) ⌝ }
     ensures { λ _. ⌜ now (out .exit) ≡ laid (sheetText code) (now (out .entry)) ⌝ }
 {
-    let mut end = numbers_writer::write_numbers(code.n, code.d, out).count();
+    let mut end = numbers_writer::write_numbers(b"n=", code.n, b"d=", code.d, out).count();
     end += families_writer::write_families(code, &mut out[end..]).count();
     end += row_writer::write_letters(b'w', code.n, code.w, &mut out[end..]).count();
     end

@@ -14,11 +14,10 @@ use Rattle.sheet.proofs.Laid.{front-fits, lent, back, Holds, end-within, room-b
 use Rattle.sheet.proofs.WrittenText.{count-is, content-is}
 use Rattle.row_writer.specs.Lines.{lettersLineText}
 use Rattle.row_writer.proofs.Lines.{letters-has-room}
-use Rattle.numbers_writer.specs.Numbers.{numbersText}
 use Rattle.numbers_writer.proofs.Numbers.{numbers-has-room}
 use Rattle.families_writer.specs.Families.{familiesText}
 use Rattle.families_writer.proofs.Families.{families-has-room}
-use Rattle.writer.proofs.Parts.{toRows, toW, sheet-parts}
+use Rattle.writer.proofs.Parts.{numbers, toRows, toW, sheet-parts}
 use Rattle.writer.proofs.sheet_lines.Statement.{statement}
 use Rattle.writer.proofs.sheet_lines.Tie as tie
 
@@ -34,9 +33,6 @@ module _ (c : tie.Start) where
   qubits : (2 ≤ code .n) × (code .n ≤ mostQubits)
   qubits = limits code (c .pre .0) .qubits
 
-  abbrev numbers : List ℕ
-  numbers = numbersText (code .n) (code .d)
-
   abbrev rows : List ℕ
   rows = familiesText code
 
@@ -49,29 +45,29 @@ module _ (c : tie.Start) where
   fitsRows : length (toRows code) ≤ length buffer
   fitsRows = front-fits (toRows code) claim fitsW
 
-  fitsNumbers : length numbers ≤ length buffer
-  fitsNumbers = front-fits numbers rows fitsRows
+  fitsNumbers : length (numbers code) ≤ length buffer
+  fitsNumbers = front-fits (numbers code) rows fitsRows
 
 -- ---- behind each call
 
 module _ (c : tie.After-count) where
   abbrev start : tie.Start
-  start = c .before .before .before .before .before .before
+  start = c .before .before .before .before .before .before .before .before
 
   abbrev outN : List ℕ
-  outN = c .before .before .before .write-numbers .last .1 .1 .0
+  outN = c .before .before .before .write-numbers .last .1 .1 .1 .1 .0
 
   abbrev endN : ℕ
   endN = c .count .result
 
-  behindNumbers : Holds (numbers start) (buffer start) outN endN
+  behindNumbers : Holds (numbers (code start)) (buffer start) outN endN
   behindNumbers =
       let call = c .before .before .before .write-numbers in
-      let whole = numbers-has-room (code start .n) (code start .d) (buffer start) (fitsNumbers start) in
+      let whole = numbers-has-room _ (code start .n) _ (code start .d) (buffer start) (fitsNumbers start) in
       record {
-        content = content-is (numbers start) (buffer start) whole (call .ensures .1);
-        count = count-is (numbers start) (buffer start) whole (call .ensures .0) (c .count .ensures);
-        size = call .kept .1 .1 .0;
+        content = content-is (numbers (code start)) (buffer start) whole (call .ensures .1);
+        count = count-is (numbers (code start)) (buffer start) whole (call .ensures .0) (c .count .ensures);
+        size = call .kept .1 .1 .1 .1 .0;
       }
 
   insideN : endN ≤ length outN
@@ -137,6 +133,8 @@ pub sheet-lines-spec : {M : Type 1} → statement M
 sheet-lines-spec =
     tie.close
     (tie.spec
+    (λ c. search needs)
+    (λ c. search needs)
     (λ c κs. search needs)
     (λ c κs. search needs)
     insideN
