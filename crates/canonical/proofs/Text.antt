@@ -29,7 +29,7 @@ module _
       let l = limits c (passed-within c passes) in
       qubits-within (c .n) (l .qubits .0) (l .qubits .1) ∙ passes
 
-  text-is : rowsText 104 (c .n) (rowsIn hs) ≡ canonicalText c
+  pub text-is : rowsText 104 (c .n) (rowsIn hs) ≡ canonicalText c
   unfolding canonicalText bytes
   text-is =
       rows-keyed "h=" 104 (c .n) (rowsIn hs) refl

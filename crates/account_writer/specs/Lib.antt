@@ -1,0 +1,2 @@
+-- What the contract of the call for a code's account cites.
+pub mod Account
