@@ -1,2 +1,3 @@
--- What the contracts of the calls for a report's corrections cite.
+-- What the contracts of the calls for a report's corrections cite, and what is stated of the lines.
 pub mod CorrectionLines
+pub mod Statements

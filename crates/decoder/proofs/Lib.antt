@@ -1,6 +1,7 @@
 pub mod Bits
 pub mod Decode
 pub mod Earliest
+pub mod StringText
 pub mod MeasuredAgain
 pub mod Corrected
 pub mod Guarantee

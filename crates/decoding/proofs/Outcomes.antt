@@ -2,7 +2,7 @@
 -- for the syndrome, with its letters in the buffer. The mask that was read is that of the syndrome's bits, so the
 -- search by the mask finds the correction for these.
 use mathlib.Core.Bool.{Bool, true, false, false≢true}
-use mathlib.Core.List.{List, map}
+use mathlib.Core.List.{List}
 use mathlib.Core.Option.{Option, none, some, bind}
 use mathlib.Core.Path.{_≡_, refl, ap, sym, _∙_}
 use Prim.Native.Nat.{ℕ, _≤_, _<_}
@@ -10,15 +10,12 @@ use native.Mathlib.Omega.{arith}
 use borrow.Author.Tests.{lt-ltb, le-ltb}
 use lib.ListN.{length}
 use Rattle.letters.specs.declared.Letter.{Letter}
-use Rattle.letters.specs.declared.Sign.the-variants.{Plus}
-use Rattle.letters.specs.Letters.{letterByte}
 use Rattle.pauli.specs.declared.Pauli.{Pauli}
-use Rattle.pauli.specs.Letters.{ofLetters, lettersOf, letterText}
+use Rattle.pauli.specs.Letters.{letterText}
 use Rattle.pauli.specs.Order.{stringsUpTo}
 use Rattle.pauli.specs.Product.{identity}
 use Rattle.pauli.proofs.EarlierOrder.{stringsUpTo-listed}
 use Rattle.pauli.proofs.First.{first-is-earliest}
-use Rattle.pauli.proofs.Letters.{letters-return}
 use Rattle.refusals.specs.declared.Refusal.{Refusal}
 use Rattle.refusals.specs.Refusals.{_then_}
 use Rattle.code_record.specs.declared.Code.{Code}
@@ -32,6 +29,7 @@ use Rattle.decoder.specs.declared.Decoded.{Decoded}
 use Rattle.decoder.specs.Correction.{correction, corrected, decode}
 use Rattle.decoder.specs.Syndrome.{readSyndrome, syndromeFault, isNone}
 use Rattle.decoder.proofs.Bits.{read-length, syndrome-written}
+use Rattle.decoder.proofs.StringText.{string-text}
 use Rattle.syndrome_reader.specs.declared.SyndromeRead.{SyndromeRead}
 use Rattle.syndrome_reader.specs.Mask.{readMask}
 use Rattle.syndrome_reader.proofs.ReadMask.{mask-is-of-bits}
@@ -59,13 +57,6 @@ pub ends-none : (found : Option (List Letter)) (buffer : List ℕ) → Correctio
 unfolding correctionOf corrected untouched isFound
 ends-none none buffer e = (refl, refl)
 ends-none (some s) buffer e = absurd (false≢true (ap isFound e))
-
--- The letters of a string's Pauli are the string.
-string-text : (n : ℕ) (s : List Letter) → length s ≡ n → letterText n (ofLetters s) ≡ map letterByte s
-unfolding letterText ofLetters
-string-text n s count =
-    ap (λ (n : ℕ). map letterByte (lettersOf n (ofLetters s))) (sym count)
-    ∙ ap (map letterByte) (letters-return Plus s)
 
 pub ends-letters : (n : ℕ) (found : Option (List Letter)) (buffer after : List ℕ) (P : Pauli)
     → ((s : List Letter) → found ≡ some s → length s ≡ n) → Correction.Found P ≡ correctionOf found
