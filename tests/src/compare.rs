@@ -63,7 +63,7 @@ fn differing(program: &Path, cases: &[Case], shown: usize) -> usize {
 fn answers(program: &Path, cases: &[Case]) -> Result<usize, Output> {
     let input: Vec<u8> = cases.iter().flat_map(Case::bytes).collect();
     let answers: Vec<Vec<u8>> = cases.iter().map(answer).collect();
-    let output = run(program, input);
+    let output = run(program, &[&input]);
     if !output.status.success() || output.stdout != answers.concat() {
         return Err(output);
     }

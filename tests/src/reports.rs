@@ -27,6 +27,9 @@ const WORKERS: usize = 2;
 const SHOWN: usize = 5;
 const SHOWN_BYTES: usize = 6_000;
 
+/// In so many pieces an input comes that comes slowly.
+const PIECES: usize = 3;
+
 /// An input, and what is known of its report.
 #[derive(Clone, Default)]
 struct Input {
@@ -37,6 +40,19 @@ struct Input {
     errors: Vec<Vec<Letter>>,
     /// the report that is kept with it
     kept: Option<Vec<u8>>,
+    /// whether it comes in several pieces, one after the other
+    slowly: bool,
+}
+
+impl Input {
+    fn run(&self, program: &Path) -> Output {
+        let len = match self.slowly {
+            true => self.bytes.len() / PIECES + 1,
+            false => self.bytes.len().max(1),
+        };
+        let pieces: Vec<&[u8]> = self.bytes.chunks(len).collect();
+        run(program, &pieces)
+    }
 }
 
 impl From<Vec<u8>> for Input {
@@ -72,7 +88,7 @@ pub fn compare(program: &Path, seed: Option<u64>) -> ExitCode {
 /// Runs the program on the input of one seed, and shows that.
 pub fn compare_one(program: &Path, seed: u64) -> ExitCode {
     let input = generated::input(seed);
-    let output = run(program, input.bytes.clone());
+    let output = input.run(program);
     let fault = fault(&input, &report(&input.bytes), &output);
     println!("{}", shown(&input, &output, fault.unwrap_or("passes")));
     told(usize::from(fault.is_none()), usize::from(fault.is_some()))
@@ -142,7 +158,7 @@ fn worked(
     for at in places {
         let input = input(at);
         let expected = report(&input.bytes);
-        let output = run(program, input.bytes.clone());
+        let output = input.run(program);
         match fault(&input, &expected, &output) {
             Some(fault) => tally.failed(at, || shown(&input, &output, fault)),
             None => tally.passed += 1,
@@ -155,8 +171,9 @@ fn worked(
 /// An input with its name, what has to be reported of it, and what the program does.
 fn shown(input: &Input, output: &Output, said: &str) -> String {
     let Input { name, bytes, .. } = input;
+    let pieces = if input.slowly { " in pieces" } else { "" };
     let parts = [
-        format!("--- {name} {said}\n{}", cut_text(bytes)),
+        format!("--- {name}{pieces} {said}\n{}", cut_text(bytes)),
         format!("--- has to be reported\n{}", cut_text(&report(bytes))),
         format!(
             "--- and is reported ({})\n{}",

@@ -1,14 +1,14 @@
 //! Codes that are admitted, and lines to stand behind their sheets.
 
 use super::Input;
-use crate::codes::{any_code, completed, single, string_of_weight, with_distance_at_most};
+use crate::codes::{any_code, single, string_of_weight, with_distance_at_most};
 use crate::codes::{disguised, MOST_DISTANCE};
 use crate::random::Random;
 use crate::record::Record;
 use crate::sheet::{line, Letter, Row, Sheet};
 use crate::strings::string_count;
 use crate::syndromes::{any_bits, off_form, syndrome};
-use crate::{damage, lists, published};
+use crate::{damage, published};
 use std::sync::OnceLock;
 
 /// The longest input that is not refused for its length.
@@ -17,11 +17,14 @@ pub const MOST_BYTES: usize = 4096;
 /// n and r.
 pub type Size = (usize, usize);
 
-/// So many codes are tried, for one whose distance is not too long.
-const TRIES: usize = 8;
-
 /// So many qubits at most has a published code in other clothes, since an admission takes long else.
 const FEW_QUBITS: usize = 17;
+
+/// So many strings are gone through for a distance, at most.
+const MOST_STRINGS: u64 = 60_000;
+
+/// Now and then so many.
+const MORE_STRINGS: u64 = 1_000_000;
 
 /// A size of few qubits, and now and then the given one.
 pub fn smaller(random: &mut Random, (n, r): Size) -> Size {
@@ -32,36 +35,64 @@ pub fn smaller(random: &mut Random, (n, r): Size) -> Size {
     (n, 1 + random.index(n - 1))
 }
 
-/// A code that is admitted, with a distance for which not too many strings have to be gone through.
+/// A code that is admitted. All of its qubits are in a code that has any rows; or only some, so that its distance is
+/// found in no time, and each of the others has a generator of its own.
 pub fn admitted(random: &mut Random, (n, r): Size) -> Sheet {
-    let most = longest_distance(random, n);
-    let dense = any_code(random, n, r);
-    let admitted = with_distance_at_most(random, &dense, most);
-    let mut light = || {
-        let code = lists::code(random, n, r);
-        with_distance_at_most(random, &code, most)
+    let strings = match random.below(16) {
+        0 => MORE_STRINGS,
+        _ => MOST_STRINGS,
     };
-    admitted
-        .or_else(|| (0..TRIES).find_map(|_| light()))
-        .unwrap_or_else(|| simplest(random, n, r))
+    let k = n - r;
+    let mut coded = match random.below(4) {
+        0 => n,
+        _ => n.min(k + 3 + random.index(10)),
+    };
+    loop {
+        let code = any_code(random, coded, coded - k);
+        let most = longest_distance(n, coded, strings);
+        if let Some(sheet) = with_distance_at_most(random, &code, most) {
+            return match coded == n {
+                true => sheet,
+                false => disguised(random, &with_qubits(&sheet, n)),
+            };
+        }
+        // one generator alone has logical errors of weight 1
+        coded = (k + 1).max(coded - 1 - random.index(3));
+    }
 }
 
-/// For most codes short, so that an admission takes no time, and for a few longer.
-fn longest_distance(random: &mut Random, n: usize) -> usize {
-    let strings = match random.below(64) {
-        0 => 1_000_000,
-        1..=8 => 60_000,
-        _ => 3_000,
-    };
-    let is_cheap = |&v: &usize| string_count(n, v) <= strings;
+/// The longest distance for which so many strings are enough: to find it among the qubits in the code, and to check it
+/// among all.
+fn longest_distance(n: usize, coded: usize, strings: u64) -> usize {
+    let is_cheap =
+        |&d: &usize| string_count(coded, d) <= strings && string_count(n, d - 1) <= strings;
     { (1..=MOST_DISTANCE).rev() }.find(is_cheap).unwrap_or(1)
 }
 
-/// Z on each of the first qubits.
-fn simplest(random: &mut Random, n: usize, r: usize) -> Sheet {
-    let rows = (0..r).map(|qubit| single(n, qubit, Letter::Z));
-    let sheet = completed(rows.collect());
-    with_distance_at_most(random, &sheet, 1).expect("X on a qubit behind them")
+/// The code with more qubits, up to n of them, each with a generator of its own. Its distance stays.
+fn with_qubits(sheet: &Sheet, n: usize) -> Sheet {
+    let wider = |letters: &[Letter]| {
+        let mut letters = letters.to_vec();
+        letters.resize(n, Letter::I);
+        letters
+    };
+    let rows = |rows: &[Row]| -> Vec<Row> {
+        let row = |row: &Row| Row {
+            letters: wider(&row.letters),
+            ..*row
+        };
+        rows.iter().map(row).collect()
+    };
+    let mut generators = rows(&sheet.generators);
+    generators.extend((sheet.n..n).map(|qubit| single(n, qubit, Letter::X)));
+    Sheet {
+        n,
+        d: sheet.d,
+        generators,
+        xs: rows(&sheet.xs),
+        zs: rows(&sheet.zs),
+        claim: wider(&sheet.claim),
+    }
 }
 
 /// A published code in other clothes.
@@ -86,11 +117,12 @@ pub fn with_errors(sheet: &Sheet, errors: Vec<Vec<Letter>>) -> Input {
     }
 }
 
-/// So many errors that the code corrects.
+/// So many errors that the code corrects, most as heavy as they may be.
 pub fn light_errors(random: &mut Random, sheet: &Sheet, count: usize) -> Vec<Vec<Letter>> {
     let t = (sheet.d - 1) / 2;
     let error = |_| {
-        let v = random.index(t + 1);
+        let any = random.index(t + 1);
+        let v = random.pick(&[t, t, any]);
         string_of_weight(random, sheet.n, v)
     };
     (0..count).map(error).collect()
@@ -110,7 +142,7 @@ pub fn asked(random: &mut Random, sheet: &Sheet, count: usize) -> Vec<u8> {
         lines.extend(match random.below(3) {
             0 => of_any_bits(random, record.r),
             _ => {
-                let v = random.index(t + 2).min(sheet.n);
+                let v = random.pick(&[0, t, t, t + 1]).min(sheet.n);
                 of_error(&record, &string_of_weight(random, sheet.n, v))
             }
         });

@@ -38,14 +38,20 @@ const SIZES: usize = 23 * 24 / 2;
 /// So often each kind occurs with each size.
 const ROUNDS: usize = 3;
 
+/// One of so many inputs comes slowly.
+const SLOW: u64 = 64;
+
 /// So many inputs has a run.
 pub const COUNT: usize = ROUNDS * (KINDS.len() + DAMAGES.len()) * SIZES;
 
 pub fn input(seed: u64) -> Input {
     let (kind, size) = kind_and_size(seed);
-    let input = of_kind(&mut Random::of_seed(seed), kind, size);
-    let name = format!("seed {seed}");
-    Input { name, ..input }
+    let mut random = Random::of_seed(seed);
+    Input {
+        name: format!("seed {seed}"),
+        slowly: random.below(SLOW) == 0,
+        ..of_kind(&mut random, kind, size)
+    }
 }
 
 fn kind_and_size(seed: u64) -> (usize, Size) {
