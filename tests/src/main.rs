@@ -4,10 +4,14 @@
 //!
 //! `independent cases` writes a selection of the cases, and `independent answers` reads cases and writes an answer
 //! for each: these two make crates/test_calls/stdin and crates/test_calls/stdout. `independent compare PROGRAM` runs
-//! the program on all cases and compares its answers. `independent report` reads an input of a report and writes the
-//! report. `independent reports PROGRAM [SEED]` runs the program `report` on many inputs, which are made from a seed, and
-//! compares its reports; with `--input SEED` it runs and shows one of them. `independent benchmark PROGRAM` is no test: it prints how long searches take in the program, beside the same
-//! made here.
+//! the program on all cases and compares its answers.
+//!
+//! `independent report` does what the program `report` does. `independent reports PROGRAM` runs that program on many
+//! inputs and compares its reports. Most inputs are made from a seed, which is printed first: a number behind PROGRAM
+//! takes the place of the clock's, and `--input` with the seed of one input runs that one and shows it.
+//!
+//! `independent benchmark PROGRAM` is no test: it prints how long searches take in the program, beside the same made
+//! here.
 
 mod admission;
 mod answers;

@@ -1,7 +1,7 @@
 //! The built program `report` beside the report that is made here: one run of the program for each input.
 //!
-//! Some inputs are fixed, and many are made from seeds. The seeds of a run follow on one another from the run's seed on,
-//! and an input can be made again from its own seed alone.
+//! Some inputs are fixed, and many are made from seeds. The seeds of a run follow on one another from the run's seed
+//! on, and an input can be made again from its own seed alone.
 
 mod codes;
 mod damaged;
@@ -74,7 +74,7 @@ pub fn compare(program: &Path, seed: Option<u64>) -> ExitCode {
         generated::input(seed.wrapping_add(at as u64))
     });
     let missing = of_seeds.occurred.missing();
-    println!("of the inputs from seeds: {}", of_seeds.occurred);
+    println!("the inputs from seeds have {}", of_seeds.occurred);
     all.add(of_seeds);
     for what in &missing {
         println!("--- {what} did not occur");

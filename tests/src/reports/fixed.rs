@@ -134,7 +134,10 @@ fn kept(folder: &Path) -> Vec<Input> {
         .collect();
     sheets.sort();
     let input = |path: &PathBuf| Input {
-        name: path.display().to_string(),
+        name: format!(
+            "sample {}",
+            path.file_stem().unwrap_or_default().to_string_lossy()
+        ),
         bytes: fs::read(path).expect("a sheet"),
         kept: Some(fs::read(path.with_extension("report")).expect("its report")),
         ..Input::default()
@@ -149,10 +152,13 @@ mod tests {
     use crate::reports::occurred::Occurred;
 
     #[test]
-    fn fixed_inputs_have_reports_of_many_kinds() {
+    fn fixed_inputs_have_reports_of_many_kinds_and_those_that_are_kept() {
         let mut occurred = Occurred::default();
         for input in inputs() {
-            occurred.see(&report(&input.bytes), input.errors.len());
+            let report = report(&input.bytes);
+            let kept = input.kept.unwrap_or(report.clone());
+            assert!(report == kept, "{}", input.name);
+            occurred.see(&report, input.errors.len());
         }
         let missing = occurred.missing();
         let of_codes = |what: &&String| what.starts_with("a code of n=");

@@ -92,7 +92,7 @@ impl Display for Occurred {
             .collect();
         write!(
             to,
-            "{} codes of {} sizes,{refusals} corrections:{corrections} {} none; {} errors that have to be corrected",
+            "{} codes of {} sizes,{refusals}\nand corrections:{corrections} {} none, {} of errors that have to have one",
             self.admitted,
             self.sizes.len(),
             self.without_correction,
