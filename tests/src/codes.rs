@@ -16,6 +16,11 @@ const TRIES: usize = 20_000;
 /// So many qubits and pairs together, at most, where all products are gone through.
 const FEW: usize = 20;
 
+/// Every n with every r that a sheet may have.
+pub fn sizes() -> impl Iterator<Item = (usize, usize)> {
+    (2..=24).flat_map(|n| (1..n).map(move |r| (n, r)))
+}
+
 /// A sheet with these generators and with logicals made for them; d is 1, and w is the first X logical.
 pub fn completed(generators: Vec<Row>) -> Sheet {
     let n = generators[0].letters.len();
@@ -138,7 +143,12 @@ fn in_role(letter: Letter, roles: &[Letter]) -> Letter {
 /// The sheet with its distance, and for w a logical error of that weight: the earliest, or any. None where the
 /// distance is more than a sheet may claim.
 pub fn with_distance(random: &mut Random, sheet: &Sheet) -> Option<Sheet> {
-    let earliest = logical_errors::earliest(sheet, MOST_DISTANCE)?;
+    with_distance_at_most(random, sheet, MOST_DISTANCE)
+}
+
+/// The same; none where the distance is more than this.
+pub fn with_distance_at_most(random: &mut Random, sheet: &Sheet, most: usize) -> Option<Sheet> {
+    let earliest = logical_errors::earliest(sheet, most)?;
     let d = weight(&earliest);
     let claim = match random.below(3) {
         0 => earliest,

@@ -4,10 +4,10 @@ use crate::answers::answer;
 use crate::cases::{Case, Kind};
 use crate::guarantee::errors_corrected;
 use crate::parts;
-use std::io::Write;
+use crate::program::{run, text};
 use std::path::Path;
-use std::process::{Command, ExitCode, Output, Stdio};
-use std::{slice, thread};
+use std::process::{ExitCode, Output};
+use std::slice;
 
 /// So many cases go to one run of the program. Where its answers differ, each of them goes to a run of its own.
 const BATCH: usize = 500;
@@ -40,9 +40,10 @@ fn differing(program: &Path, cases: &[Case], shown: usize) -> usize {
         println!("--- the case\n{}", text(&case.bytes()));
         println!("--- has to be answered\n{}", text(&answer(case)));
         println!(
-            "--- and is answered ({})\n{}",
+            "--- and is answered ({})\n{}{}",
             output.status,
-            text(&output.stdout)
+            text(&output.stdout),
+            text(&output.stderr)
         );
     }
     match differences.len() {
@@ -57,17 +58,12 @@ fn differing(program: &Path, cases: &[Case], shown: usize) -> usize {
     }
 }
 
-/// Its lines, with the bytes escaped that cannot be seen.
-fn text(bytes: &[u8]) -> String {
-    bytes.escape_ascii().to_string().replace("\\n", "\n")
-}
-
 /// How many errors the program corrects, where it gives the answers to the cases and the guarantee holds of what it
 /// gives; else what it gives.
 fn answers(program: &Path, cases: &[Case]) -> Result<usize, Output> {
     let input: Vec<u8> = cases.iter().flat_map(Case::bytes).collect();
     let answers: Vec<Vec<u8>> = cases.iter().map(answer).collect();
-    let output = run(program, input);
+    let output = run(program, &[&input]);
     if !output.status.success() || output.stdout != answers.concat() {
         return Err(output);
     }
@@ -84,16 +80,4 @@ fn answers(program: &Path, cases: &[Case]) -> Result<usize, Output> {
         }
     }
     Ok(corrected)
-}
-
-fn run(program: &Path, input: Vec<u8>) -> Output {
-    let mut command = Command::new(program);
-    let command = command.stdin(Stdio::piped()).stdout(Stdio::piped());
-    let mut child = command.spawn().expect("the program runs");
-    let mut stdin = child.stdin.take().expect("it has a standard input");
-    // a program that ends early closes its input, and its answers then differ
-    let writer = thread::spawn(move || stdin.write_all(&input).ok());
-    let output = child.wait_with_output().expect("the program ends");
-    writer.join().expect("its input is written");
-    output
 }

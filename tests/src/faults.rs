@@ -221,7 +221,7 @@ fn claim_in_group(random: &mut Random, sheet: &Sheet) -> Option<Sheet> {
 }
 
 /// A logical error that is heavier than w, with its weight for d. Generators that clash have no group to be outside of.
-fn claim_heavier(random: &mut Random, sheet: &Sheet) -> Option<Sheet> {
+pub fn claim_heavier(random: &mut Random, sheet: &Sheet) -> Option<Sheet> {
     if group::check(&sheet.generators).is_err_and(|refusal| refusal.number == 6) {
         return None;
     }

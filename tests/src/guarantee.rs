@@ -1,6 +1,7 @@
-//! The third guarantee as a check of what the test program writes: where a sheet is admitted, each error of weight at
-//! most t has a correction, which is no heavier, and the product of the two is in the group, phase aside. The check
-//! knows nothing of syndromes: it multiplies letters, and looks for the product among the members.
+//! The third guarantee as a check of what the programs write: where a sheet is admitted, each error of weight at most t
+//! has a correction, which is no heavier, and the product of the two is in the group, phase aside. Where a distance is
+//! refuted, the two errors that are shown are too light together for it, and their product is a logical error. The
+//! check knows nothing of syndromes: it multiplies letters, and looks for the product among the members.
 
 use crate::logical_errors::Undetected;
 use crate::product::product;
@@ -22,19 +23,45 @@ pub fn errors_corrected(text: &[u8], answer: &[u8]) -> Option<usize> {
         return Some(0);
     }
     let sheet = sheet::read_alone(sheet).ok()?;
-    let code = Undetected::of(&sheet.generators);
     let cycle: Vec<&[u8]> = lines.by_ref().take(CYCLE_LINES).collect();
     let by_cycle = cycle.get(CYCLE_LETTERS)?.split(|&byte| byte == b' ').next();
     let by_decode = lines.map(|line| line.rsplit(|&byte| byte == b' ').next());
     let shown: Vec<Option<&[u8]>> = iter::once(by_cycle).chain(by_decode).collect();
-    let errors: Vec<&Question> = questions.first().into_iter().chain(&questions).collect();
-    let corrected = |(question, shown): (&Question, Option<&[u8]>)| {
-        let error = error(question, &sheet);
-        let correction = shown.and_then(|shown| letters(shown, sheet.n));
-        correction.is_some_and(|correction| corrects(&code, &correction, &error))
+    let errors = questions.first().into_iter().chain(&questions);
+    let errors: Vec<Vec<Letter>> = errors.map(|question| error(question, &sheet)).collect();
+    each_corrected(&sheet, &errors, &shown).then_some(questions.len())
+}
+
+/// Whether the `c=` lines of a report have a correction of each of the errors, in their order.
+pub fn report_corrects(sheet: &Sheet, errors: &[Vec<Letter>], report: &[u8]) -> bool {
+    let lines = report.split(|&byte| byte == b'\n');
+    let shown: Vec<Option<&[u8]>> = lines
+        .filter_map(|line| line.strip_prefix(b"c="))
+        .map(Some)
+        .collect();
+    each_corrected(sheet, errors, &shown)
+}
+
+/// Whether the two errors that a report of 14 shows refute the distance.
+pub fn report_refutes(sheet: &Sheet, report: &[u8]) -> bool {
+    let shown = |key: &[u8]| {
+        let mut lines = report.split(|&byte| byte == b'\n');
+        lines.find_map(|line| letters(line.strip_prefix(key)?, sheet.n))
     };
-    let all = shown.len() == errors.len() && errors.into_iter().zip(shown).all(corrected);
-    all.then_some(questions.len())
+    let (Some(one), Some(other)) = (shown(b"e="), shown(b"f=")) else {
+        return false;
+    };
+    let code = Undetected::of(&sheet.generators);
+    weight(&one) + weight(&other) < sheet.d && code.has_logical(&letters_product(&one, &other))
+}
+
+fn each_corrected(sheet: &Sheet, errors: &[Vec<Letter>], shown: &[Option<&[u8]>]) -> bool {
+    let code = Undetected::of(&sheet.generators);
+    let corrected = |(error, shown): (&Vec<Letter>, &Option<&[u8]>)| {
+        let correction = shown.and_then(|shown| letters(shown, sheet.n));
+        correction.is_some_and(|correction| corrects(&code, &correction, error))
+    };
+    shown.len() == errors.len() && errors.iter().zip(shown).all(corrected)
 }
 
 /// The letters of an error. Nothing is promised of one that is heavier than t.
@@ -48,12 +75,15 @@ fn error(question: &Question, sheet: &Sheet) -> Vec<Letter> {
 }
 
 fn corrects(code: &Undetected, correction: &[Letter], error: &[Letter]) -> bool {
-    let [left, right] = [correction, error].map(|letters| Row {
+    weight(correction) <= weight(error) && code.is_member(&letters_product(correction, error))
+}
+
+fn letters_product(left: &[Letter], right: &[Letter]) -> Vec<Letter> {
+    let [left, right] = [left, right].map(|letters| Row {
         minus: false,
         letters: letters.to_vec(),
     });
-    let product = product(error.len(), [&left, &right]);
-    weight(correction) <= weight(error) && code.is_member(&product.letters)
+    product(left.letters.len(), [&left, &right]).letters
 }
 
 #[cfg(test)]
@@ -109,6 +139,39 @@ mod tests {
             assert_eq!(shown(A, &second), None, "{line}");
         }
         assert_eq!(shown(NINE, &[("ZIIIIIIII", "00000010 IIIIIIIIZ")]), None);
+    }
+
+    #[test]
+    fn the_corrections_of_a_report() {
+        let sheet = sheet::read_alone(NINE.as_bytes()).unwrap();
+        let errors = ["ZIIIIIIII", "IIIIIIIII"].map(|error| letters(error.as_bytes(), 9).unwrap());
+        let corrects = |lines: &str| {
+            let report = format!("n=9\nk=1\nd=3\nt=1\nh=+ZIZIIIIII\n{lines}");
+            report_corrects(&sheet, &errors, report.as_bytes())
+        };
+        assert!(corrects("c=IIZIIIIII\nc=IIIIIIIII\n"));
+        assert!(!corrects("c=IIZIIIIII\nc=ZZIIIIIII\n"));
+        assert!(!corrects("c=IIIIIIZII\nc=IIIIIIIII\n"));
+        assert!(!corrects("c=none\nc=IIIIIIIII\n"));
+        assert!(!corrects("c=IIZIIIIII\n"));
+        assert!(!report_corrects(&sheet, &errors, b"r=16\nat=13\n"));
+    }
+
+    #[test]
+    fn the_two_errors_of_a_report() {
+        let sheet = A.replace("d=3", "d=5").replace("w=IYYIX", "w=XXXXX");
+        let sheet = sheet::read_alone(sheet.as_bytes()).unwrap();
+        let refutes = |lines: &str| {
+            let report = format!("r=14\nat=9\n{lines}");
+            report_refutes(&sheet, report.as_bytes())
+        };
+        assert!(refutes("e=IIXYI\nf=IIIIX\n"));
+        assert!(!refutes("e=IIXYI\nf=IIIIY\n"));
+        assert!(!refutes("e=IIXYI\nf=IIXYI\n"));
+        // in the group, and too heavy
+        assert!(!refutes("e=XZIII\nf=IIZXI\n"));
+        assert!(!refutes("e=XXXXX\nf=IIIII\n"));
+        assert!(!refutes("e=IIXYI\n"));
     }
 
     #[test]

@@ -4,9 +4,14 @@
 //!
 //! `independent cases` writes a selection of the cases, and `independent answers` reads cases and writes an answer
 //! for each: these two make crates/test_calls/stdin and crates/test_calls/stdout. `independent compare PROGRAM` runs
-//! the program on all cases and compares its answers. `independent report` reads an input of a report and writes the
-//! report. `independent benchmark PROGRAM` is no test: it prints how long searches take in the program, beside the same
-//! made here.
+//! the program on all cases and compares its answers.
+//!
+//! `independent report` does what the program `report` does. `independent reports PROGRAM` runs that program on many
+//! inputs and compares its reports. Most inputs are made from a seed, which is printed first: a number behind PROGRAM
+//! takes the place of the clock's, and `--input` with the seed of one input runs that one and shows it.
+//!
+//! `independent benchmark PROGRAM` is no test: it prints how long searches take in the program, beside the same made
+//! here.
 
 mod admission;
 mod answers;
@@ -24,16 +29,19 @@ mod lists;
 mod logical_errors;
 mod parts;
 mod product;
+mod program;
 mod published;
 mod questions;
 mod random;
 mod record;
 mod report;
+mod reports;
 #[cfg(test)]
 mod sample_files;
 mod samples;
 mod sheet;
 mod strings;
+mod syndromes;
 
 use cases::Case;
 use std::io::{self, Read, Write};
@@ -48,17 +56,34 @@ fn main() -> ExitCode {
         ["answers"] => write(cases::read(&input()).iter().flat_map(answers::answer)),
         ["report"] => write(report::report(&input()).into_iter()),
         ["compare", program] => return compare::compare(Path::new(program)),
+        ["reports", program, ..] => return compare_reports(Path::new(program), &arguments[2..]),
         ["benchmark"] => benchmark::benchmark(None),
         ["benchmark", program] => benchmark::benchmark(Some(Path::new(program))),
-        _ => {
-            eprintln!(
-                "cases; or answers, with cases on standard input; or compare and a program; or report, with a sheet on \
-                 standard input; or benchmark and a program"
-            );
-            return ExitCode::FAILURE;
-        }
+        _ => return usage(),
     }
     ExitCode::SUCCESS
+}
+
+fn usage() -> ExitCode {
+    eprintln!(
+        "cases; or answers, with cases on standard input; or compare and a program; or report, with a sheet on \
+         standard input; or reports and a program, with a seed or --input and the seed of one input; or benchmark and \
+         a program"
+    );
+    ExitCode::FAILURE
+}
+
+/// On all inputs, or on that of one seed.
+fn compare_reports(program: &Path, arguments: &[&str]) -> ExitCode {
+    let seed = |text: &str| text.parse().ok();
+    match arguments {
+        [] => reports::compare(program, None),
+        [text] if seed(text).is_some() => reports::compare(program, seed(text)),
+        ["--input", text] => {
+            seed(text).map_or_else(usage, |seed| reports::compare_one(program, seed))
+        }
+        _ => usage(),
+    }
 }
 
 fn input() -> Vec<u8> {

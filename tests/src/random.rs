@@ -1,9 +1,19 @@
-//! Numbers for the cases: the same each time.
+//! Numbers for the cases: the same each time for a seed.
 
 /// Marsaglia's xorshift.
 pub struct Random(pub u64);
 
 impl Random {
+    /// Of any seed. Seeds that follow on one another have numbers that have nothing to do with one another: it is
+    /// Steele's, Lea's and Flood's splitmix that makes the first of them.
+    pub fn of_seed(seed: u64) -> Random {
+        let mut state = seed.wrapping_add(0x9e37_79b9_7f4a_7c15);
+        state = (state ^ state >> 30).wrapping_mul(0xbf58_476d_1ce4_e5b9);
+        state = (state ^ state >> 27).wrapping_mul(0x94d0_49bb_1331_11eb);
+        // xorshift would stay at 0
+        Random((state ^ state >> 31).max(1))
+    }
+
     pub fn below(&mut self, n: u64) -> u64 {
         self.0 ^= self.0 << 13;
         self.0 ^= self.0 >> 7;

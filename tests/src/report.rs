@@ -71,6 +71,7 @@ fn refused(fault: &Fault) -> Vec<u8> {
 mod tests {
     use super::*;
     use crate::codes::single;
+    use crate::damage::filled;
     use crate::product::commute;
     use crate::samples::{self, A, CLASH, EIGHT, FOUR, I, K, L, NINE};
     use crate::sheet::{read_alone, Letter};
@@ -219,11 +220,7 @@ mod tests {
 
     #[test]
     fn the_whole_input_has_at_most_4096_bytes() {
-        let filled = |len: usize| {
-            let lines = b"s=0\n".iter().cycle();
-            let bytes = K.as_bytes().iter().chain(lines).take(len);
-            bytes.copied().collect::<Vec<u8>>()
-        };
+        let filled = |len| filled(K.as_bytes(), b"s=0\n", len);
         assert_eq!((4096 - K.len()) % 4, 1);
         let lines = (4095 - K.len()) / 4;
         assert_eq!(of(filled(4095)), of(K) + &"c=II\n".repeat(lines));

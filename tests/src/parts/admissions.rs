@@ -6,7 +6,7 @@ use crate::codes::{any_code, with_distance};
 use crate::faults::FAULTS;
 use crate::random::Random;
 use crate::samples::{self, A, CLASH, EIGHT, FOUR, I, K, NINE};
-use crate::sheet::{self, Sheet};
+use crate::sheet::Sheet;
 use crate::{damage, published};
 
 type Texts = Vec<Vec<u8>>;
@@ -189,25 +189,14 @@ fn misnumbered(generated: &[Vec<u8>]) -> Texts {
     ];
     let mut texts = Texts::new();
     for text in generated.iter().step_by(25) {
-        for (key, number) in LINES {
-            let renumbered = |line: &[u8]| match line.starts_with(key.as_bytes()) {
-                true => sheet::line(key, number.as_bytes()),
-                false => line.to_vec(),
-            };
-            let lines = text.split_inclusive(|&byte| byte == b'\n');
-            texts.push(lines.flat_map(renumbered).collect());
-        }
+        texts.extend(LINES.map(|(key, number)| damage::renumbered(text, key, number)));
     }
     texts
 }
 
 /// A sheet with bytes behind it, up to 4,096 and more.
 fn long() -> Texts {
-    let filled = |text: &str, len: usize| {
-        let fill = b"s=0\n".iter().cycle();
-        let bytes = text.as_bytes().iter().chain(fill);
-        bytes.take(len).copied().collect()
-    };
+    let filled = |text: &str, len| damage::filled(text.as_bytes(), b"s=0\n", len);
     let lengths = [K.len() + 1, 4095, 4096, 4097, 5000];
     let texts = [K, CLASH, I].into_iter();
     texts

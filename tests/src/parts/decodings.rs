@@ -3,15 +3,15 @@
 use super::{Codes, Part};
 use crate::cases::{Case, Kind};
 use crate::codes::string_of_weight;
-use crate::decoding::Decoder;
 use crate::faults::FAULTS;
 use crate::published;
 use crate::questions::{of_characters, of_pauli, text};
 use crate::random::Random;
-use crate::record::{Pauli, Record, LAST_CHANGE};
+use crate::record::{Record, LAST_CHANGE};
 use crate::samples::{self, any_row, A, K, L, NINE};
 use crate::sheet::{self, Letter, Row, Sheet};
 use crate::strings::strings_of_weight;
+use crate::syndromes::{any_bits, every_bits, off_form, syndrome};
 
 /// So many generators at most where every syndrome is asked about.
 const FEW_GENERATORS: usize = 10;
@@ -21,9 +21,6 @@ const FEW_QUBITS: usize = 12;
 
 /// So many syndromes or errors where it is not each of them.
 const SOME: usize = 24;
-
-/// Bytes that are neither 0 nor 1.
-const OTHERS: &[u8] = b"2/:Ol \0\r\xb1";
 
 type Questions = Vec<Vec<u8>>;
 
@@ -159,39 +156,6 @@ fn light_error(random: &mut Random, record: &Record) -> Row {
 fn signed(random: &mut Random, letters: Vec<Letter>) -> Row {
     let minus = random.below(2) == 0;
     Row { minus, letters }
-}
-
-/// The characters of a row's syndrome; none where the record is outside its limits.
-fn syndrome(record: &Record, row: &Row) -> Vec<u8> {
-    let mut characters = vec![b'.'; record.r];
-    let written = Decoder::of(record).write_syndrome(Pauli::of(row), &mut characters);
-    written.map_or(Vec::new(), |()| characters)
-}
-
-fn any_bits(random: &mut Random, r: usize) -> Vec<u8> {
-    (0..r).map(|_| random.pick(b"01")).collect()
-}
-
-/// All r characters.
-fn every_bits(r: usize) -> Vec<Vec<u8>> {
-    let bits = |number: u32| (0..r).map(move |at| b"01"[(number >> at & 1) as usize]);
-    (0..1 << r).map(|number| bits(number).collect()).collect()
-}
-
-/// None, one too few, one too many, as many as a mask has room for and more, and another byte among them.
-fn off_form(random: &mut Random, r: usize) -> Vec<Vec<u8>> {
-    let lengths = [
-        0,
-        r.saturating_sub(1),
-        r + 1,
-        random.pick(&[25, 32, 33, 60]),
-    ];
-    let mut characters = lengths.map(|len| any_bits(random, len)).to_vec();
-    let mut other = any_bits(random, r.max(1));
-    let at = random.index(other.len());
-    other[at] = random.pick(OTHERS);
-    characters.push(other);
-    characters
 }
 
 /// Records with each change; the one beside a refused reading is among them.

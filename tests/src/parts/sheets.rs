@@ -2,6 +2,8 @@
 
 use super::{each_change, unchanged, Part};
 use crate::cases::{Case, Kind};
+use crate::codes::sizes;
+use crate::damage::filled;
 use crate::random::Random;
 use crate::samples::{self, A, EIGHT, K, NINE};
 use crate::sheet::Letter;
@@ -68,11 +70,6 @@ fn refused_by_each_number() -> [String; 8] {
         "n=3\nd=1\ng=+ZZI\ng=+IZZ\ng=+ZIZ\n".to_string(),
         A.to_string() + "s=0001\ns=1010\n",
     ]
-}
-
-/// Every n with every r.
-fn sizes() -> impl Iterator<Item = (usize, usize)> {
-    (2..=24).flat_map(|n| (1..n).map(move |r| (n, r)))
 }
 
 /// Every size, and every d.
@@ -281,10 +278,6 @@ fn behind_w() -> Texts {
 /// Inputs as long as they may be, and longer.
 fn long(random: &mut Random) -> Texts {
     let longest = any_rows(random, 24, 1, 7);
-    let filled = |text: &[u8], filler: &[u8], len: usize| {
-        let bytes = text.iter().chain(filler.iter().cycle());
-        bytes.take(len).copied().collect::<Vec<u8>>()
-    };
     vec![
         filled(A.as_bytes(), b"s=0101\n", 4096),
         filled(A.as_bytes(), b"s=0101\n", 4097),
