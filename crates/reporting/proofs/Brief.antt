@@ -1,8 +1,8 @@
 -- The refusals of a record's checks are brief, as text: they name lines of the sheet, which has few, and the errors
 -- of 14 have a letter for each qubit.
 use mathlib.Core.List.{List}
-use mathlib.Core.Option.{none}
-use mathlib.Core.Path.{_≡_, refl}
+use mathlib.Core.Option.{none, some, Option·none-ne-some, Option·some-injective}
+use mathlib.Core.Path.{_≡_, refl, ap, sym, _∙_}
 use Prim.Native.Nat.{ℕ, _≤_}
 use native.Mathlib.Omega.{arith}
 use lib.Dec.{lit≤}
@@ -10,8 +10,9 @@ use lib.ListN.{length, length-append}
 use Rattle.letters.specs.declared.Letter.{Letter}
 use Rattle.letters.specs.Lists.{bytes}
 use Rattle.code_record.specs.declared.Code.{Code}
+use Rattle.refusals.specs.declared.ErrorPair.{ErrorPair}
 use Rattle.refusals.specs.declared.Refusal.{Refusal}
-use Rattle.code_record.specs.Record.{generatorsAt, pairCount, logicalCount, logicalsAt, claimAt, Sized}
+use Rattle.code_record.specs.Record.{mostQubits, generatorsAt, pairCount, logicalCount, logicalsAt, claimAt, Sized}
 use Rattle.refusals.specs.Refusals.{values}
 use Rattle.code_record.proofs.Limits.{Limits}
 use Rattle.sheet.proofs.Lengths.{length-line, length-letterText, length-generators, length-logicalXs, length-logicalZs}
@@ -26,16 +27,22 @@ use Rattle.reporting.specs.Report.{errorsText}
 abbrev pub lastLine : ℕ
 lastLine = 5000
 
--- The errors are two lines of at most 24 letters, with a key and a line feed each.
+-- The errors are on 2 to 24 qubits, in two lines with a key and a line feed each.
 pub record Brief (refusal : Refusal) : Type 0 where
   pub number : values refusal .number ≤ 17
   pub line : values refusal .line ≤ lastLine
   pub errors : length (errorsText (values refusal .errors)) ≤ 54
+  pub qubits : (pair : ErrorPair) → values refusal .errors ≡ some pair → (2 ≤ pair .n) × (pair .n ≤ mostQubits)
 
 pub brief : (refusal : Refusal) → values refusal .number ≤ 17 → values refusal .line ≤ lastLine
     → values refusal .errors ≡ none → Brief refusal
 unfolding errorsText
-brief refusal number line none-carried = record { number = number; line = line; errors = rw none-carried (lit≤ tt) }
+brief refusal number line none-carried = record {
+  number = number;
+  line = line;
+  errors = rw none-carried (lit≤ tt);
+  qubits = λ pair carried. absurd (Option·none-ne-some pair (sym none-carried ∙ carried));
+}
 
 -- ---- the checks
 
@@ -60,6 +67,8 @@ module _ (c : Code) (sized : Sized c) (within : Limits c) where
       number = lit≤ tt;
       line = few;
       errors = simp (length-append, length-line, length-letterText) (omega arith);
+      qubits = λ pair carried.
+          let n = ap (λ (p : ErrorPair). p .n) (Option·some-injective _ pair carried) in omega (arith, within .qubits);
     }
 
     checks-brief : (refusal : Refusal) → OfChecks at c refusal → Brief refusal

@@ -17,7 +17,7 @@ use Rattle.code_record.specs.Record.{mostQubits, mostDistance, longestInput, fi
 use Rattle.code_record.specs.Record.{mostGenerators}
 use Rattle.code_record.specs.Record.{between}
 use Rattle.code_record.proofs.Limits.{between-bounds}
-use Rattle.sheet.specs.Reader.{stop, done, begins, isLine, lineOf, readLine, readNumber, readRow, readLetters}
+use Rattle.sheet.specs.Reader.{SheetRead, stop, done, begins, isLine, lineOf, readLine, readNumber, readRow, readLetters}
 use Rattle.sheet.specs.Reader.{inRange, qubitLine, distanceLine, rowLine, rowsUpTo, countedGenerators, generatorLines}
 use Rattle.sheet.specs.Reader.{countedLogicals, logicalLines, claimLine, linesAfter, sheetLines, readLines}
 use Rattle.sheet.proofs.Outcome.{Outcome, gets, stops, continue-outcome, cond-outcome, gotOr-outcome}
@@ -123,3 +123,10 @@ unfolding readLines
 lines-brief s =
     cond-outcome (ltb longestInput (length s)) (λ e. stops (brief Refusal.TooLong (lit≤ tt) (lit≤ tt) refl))
     (λ e. sheet-lines-brief (ltb-false longestInput (length s) e) s)
+
+-- A refusal that ended the reading is brief.
+pub stopped-brief : (s : List ℕ) (refusal : Refusal) → readLines s ≡ stop refusal → Brief refusal
+stopped-brief s refusal e = of-stop (rw e at (lines-brief s))
+  where
+    of-stop : Outcome (λ (q : SheetRead) (rest : List ℕ). length s ≤ longestInput) Brief (stop refusal) → Brief refusal
+    of-stop (stops h) = h

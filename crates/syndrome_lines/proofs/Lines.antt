@@ -126,6 +126,36 @@ module _ (r : ℕ) where
       ap (λ line. lineThen line (checkedLines (length s) r) behind) e
       ∙ ap oneMore (check-bound (length s) (length behind) behind (omega arith) (omega arith))
 
+-- ---- how many lines stand before a fault
+
+abbrev pub linesBefore : SyndromeLines → ℕ
+linesBefore SyndromeLines.Read = 0
+linesBefore (SyndromeLines.OffForm m) = m
+
+one-more-before : (lines : SyndromeLines) → linesBefore (oneMore lines) ≤ linesBefore lines + 1
+unfolding oneMore
+one-more-before SyndromeLines.Read = omega arith
+one-more-before (SyndromeLines.OffForm m) = omega arith
+
+then-few : (line : SyndromeRead) (others : List ℕ → SyndromeLines) (behind : List ℕ) (most : ℕ)
+    → linesBefore (others behind) ≤ most → linesBefore (lineThen line others behind) ≤ suc most
+unfolding lineThen
+then-few (SyndromeRead.Mask m) others behind most few = omega (arith, one-more-before (others behind))
+then-few SyndromeRead.Malformed others behind most few = omega arith
+
+checked-few : (most r : ℕ) (s : List ℕ) → linesBefore (checkedLines most r s) ≤ most
+unfolding checkedLines
+checked-few zero r [] = omega arith
+checked-few zero r (b ∷ s) = omega arith
+checked-few (suc most) r [] = omega arith
+checked-few (suc most) r (b ∷ s) =
+    then-few (maskLine r (b ∷ s)) (checkedLines most r) _ most (checked-few most r (drop (syndromeLength r) (b ∷ s)))
+
+-- Each has a byte.
+pub few-before : (r : ℕ) (s : List ℕ) → linesBefore (checkLines r s) ≤ length s
+unfolding checkLines
+few-before r s = checked-few (length s) r s
+
 -- ---- what a loop has read
 
 -- So many lines were read before those that are told of.

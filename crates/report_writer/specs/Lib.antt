@@ -1,0 +1,2 @@
+-- What the contracts of the report's functions cite.
+pub mod Reports
