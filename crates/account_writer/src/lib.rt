@@ -16,7 +16,6 @@ use refusals::Refusal;
 use refusals::Written;
 use rows_writer::rows_there;
 use rows_writer::write_rows;
-ghost use mathlib.Core.Bool.{true};
 ghost use mathlib.Core.Path.{_≡_};
 ghost use Prim.Native.Nat.{_≤_};
 ghost use lib.Dec.{leb};

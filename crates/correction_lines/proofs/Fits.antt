@@ -9,7 +9,7 @@ use borrow.Author.Tests.{le-leb, lt-leb, leb-true, leb-false}
 use lib.Dec.{leb}
 use lib.ListN.{length, drop, length-append, length-drop}
 use Rattle.letter_sums.specs.declared.LetterWords.{LetterWords}
-use Rattle.code_record.specs.Record.{mostQubits, between}
+use Rattle.code_record.specs.Record.{mostQubits}
 use Rattle.code_record.proofs.Limits.{bounds-between, outside-between}
 use Rattle.syndrome_reader.specs.declared.SyndromeRead.{SyndromeRead}
 use Rattle.syndrome_lines.specs.SyndromeLines.{maskLine, syndromeLength}

@@ -30,7 +30,7 @@ use Rattle.corrections.proofs.ByValue.{corrections-by-value, qubits-have-words}
 use Rattle.reporting.specs.Report.{correctionValue, correctionLine}
 use Rattle.reporting.specs.Statements.{syndromeLineText, syndromesText}
 use Rattle.reporting.proofs.Syndromes.{HaveRBits, line-read, syndromes-outcome}
-use Rattle.syndrome_lines.specs.SyndromeLines.{maskLine, syndromeLength}
+use Rattle.syndrome_lines.specs.SyndromeLines.{maskLine, syndromeLength, lineFault}
 use Rattle.syndrome_lines.proofs.InReports.{syndrome-lines-are-read}
 use Rattle.correction_writer.specs.Lines.{correctionText}
 use Rattle.correction_lines.specs.Statements.{CorrectionLinesAreReported}
@@ -81,6 +81,7 @@ module _ (c : Code) (sized : Sized c) (within : withinLimits c ≡ true) where
             (maskLine (c .r) text ≡ SyndromeRead.Mask (maskOfBits bits)) × (drop (syndromeLength (c .r)) text ≡ rest)
 
         line-masked : IsRead
+        unfolding lineFault
         line-masked = by-line (maskLine (c .r) text) refl
           where
             by-line : (x : SyndromeRead) → maskLine (c .r) text ≡ x → IsRead
@@ -89,7 +90,7 @@ module _ (c : Code) (sized : Sized c) (within : withinLimits c ≡ true) where
                 let same = same-line (sym (told .1) ∙ line-read c 0 bits rest count) in
                 (e ∙ ap SyndromeRead.Mask (told .2 ∙ ap maskOfBits (same .0)), same .1)
             by-line SyndromeRead.Malformed e =
-                let off = syndrome-lines-are-read .malformed c 0 text few e in
+                let off = syndrome-lines-are-read .malformed c 0 text _ few (ap (lineFault 0) e) in
                 absurd (not-stopped (sym (line-read c 0 bits rest count) ∙ off))
 
   -- ---- all syndromes

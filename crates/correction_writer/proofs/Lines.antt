@@ -9,9 +9,9 @@ use Rattle.letters.specs.Lists.{bytes}
 use Rattle.pauli.specs.declared.Pauli.{Pauli}
 use Rattle.refusals.specs.declared.Written.{Written}
 use Rattle.code_record.specs.Record.{mostQubits}
-use Rattle.sheet.specs.Text.{After, laid, written}
+use Rattle.sheet.specs.Text.{laid, written}
 use Rattle.sheet.proofs.WrittenText.{written-whole}
-use Rattle.row_writer.specs.Lines.{lettersLineText, writeLetters}
+use Rattle.row_writer.specs.Lines.{writeLetters}
 use Rattle.row_writer.proofs.Lines.{length-lettersLineText, qubits-within}
 use Rattle.corrections.specs.declared.Correction.{Correction}
 use Rattle.correction_writer.specs.Lines.{correctionText, correctionFault, writeCorrection}

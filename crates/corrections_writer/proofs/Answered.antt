@@ -1,14 +1,11 @@
 -- What the loop has written: the lines for the syndromes that were passed. And what the call answers.
 use mathlib.Core.List.{List, [], _++_}
-use mathlib.Core.Path.{_≡_, ap, sym, _∙_}
-use Prim.Native.Nat.{ℕ, _+_, _≤_, _<_}
+use mathlib.Core.Path.{_≡_, ap, _∙_}
+use Prim.Native.Nat.{ℕ, _+_, _≤_}
 use native.Mathlib.Omega.{arith}
 use lib.ListN.{length, drop, length-append}
-use Rattle.refusals.specs.declared.Written.{Written}
-use Rattle.code_record.specs.Record.{mostQubits}
-use Rattle.sheet.specs.Text.{After, laid}
+use Rattle.sheet.specs.Text.{laid}
 use Rattle.sheet.proofs.Laid.{lent, back, length-lent, Holds, holds-nothing, holds-more}
-use Rattle.sheet.proofs.WrittenText.{count-is, content-is}
 use Rattle.letter_sums.specs.declared.LetterWords.{LetterWords}
 use Rattle.syndrome_reader.specs.declared.SyndromeRead.{SyndromeRead}
 use Rattle.syndrome_lines.specs.SyndromeLines.{maskLine}

@@ -69,7 +69,8 @@ members-have-zeros rows P commuting member =
 
 -- ---- an admitted sheet
 
-pub generators-pass : (at : ℕ) (c : Code) → codeFault at c ≡ none → generatorFault (generatorsAt c) (generators c) ≡ none
+pub generators-pass : (at : ℕ) (c : Code) → codeFault at c ≡ none
+    → generatorFault (generatorsAt c) (generators c) ≡ none
 unfolding codeFault faultButDistance
 generators-pass at c faultless =
     let checks = nothing-then (faultButDistance at c) (distanceFault at c) faultless .0 in

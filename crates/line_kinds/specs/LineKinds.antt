@@ -11,7 +11,7 @@ use Rattle.line_kinds.specs.declared.LineKind.{LineKind}
 use Rattle.line_kinds.specs.declared.LineKind.the-variants.{Qubits, Distance, Generator, LogicalX, LogicalZ}
 use Rattle.line_kinds.specs.declared.LineKind.the-variants.{Claim, Syndrome, Other}
 
--- RULES, "The sheet" and "The report": each kind of line has its key. The byte of the key; a line of another kind has none.
+-- RULES, "The sheet" and "The report": each kind of line has its key. Its byte; a line of another kind has none.
 abbrev pub kindByte : LineKind → ℕ
 kindByte Qubits = code "n"
 kindByte Distance = code "d"

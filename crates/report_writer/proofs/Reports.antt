@@ -1,11 +1,11 @@
 -- The report by what its parts answered: each part's text is the report's, and the part refuses with 17 alone.
-use mathlib.Core.Bool.{Bool, true}
-use mathlib.Core.List.{List, [], _++_, flatMap}
+use mathlib.Core.Bool.{Bool}
+use mathlib.Core.List.{List, [], _++_}
 use mathlib.Core.Option.{Option, none, some}
 use mathlib.Core.Path.{_≡_, refl, ap, ap₂, sym, subst, _∙_}
 use Prim.Native.Nat.{ℕ, _+_, _^_, _≤_, _<_}
 use native.Mathlib.Omega.{arith}
-use lib.ListN.{length, drop}
+use lib.ListN.{length}
 use Rattle.code_record.specs.declared.Code.{Code}
 use Rattle.code_record.specs.declared.LinesReading.{LinesReading}
 use Rattle.code_record.specs.Record.{mostQubits, rowRoom, limitsFault}
@@ -17,7 +17,7 @@ use Rattle.refusals.specs.declared.Written.{Written}
 use Rattle.refusals.specs.Refusals.{values, _then_}
 use Rattle.sheet.specs.Reader.{SheetRead, Parsed, got, stop, readLines, answered, linesReading, behind}
 use Rattle.sheet.specs.Text.{After, written}
-use Rattle.sheet.proofs.Numbers.{IfRefused, law-of-refusal}
+use Rattle.sheet.proofs.Numbers.{law-of-refusal}
 use Rattle.sheet.specs.Statements.{ReadIsLawful}
 use Rattle.sheet.proofs.Outcome.{what-was-got}
 use Rattle.sheet.proofs.ReadBack.{reads-are-lawful, read-within, rest-is-behind}
@@ -36,11 +36,11 @@ use Rattle.reporting.proofs.Steps.{linesFrom}
 use Rattle.refusal_writer.specs.RefusalLines.{errorsFault, pairFault, writeRefusal}
 use Rattle.refusal_writer.proofs.RefusalCall.{refusal-is-written}
 use Rattle.syndrome_lines.specs.declared.SyndromeLines.{SyndromeLines}
-use Rattle.syndrome_lines.specs.SyndromeLines.{checkLines}
+use Rattle.syndrome_lines.specs.SyndromeLines.{checkLines, linesFault}
 use Rattle.syndrome_lines.proofs.InReports.{syndrome-lines-are-read}
 use Rattle.correction_lines.proofs.InReports.{correction-lines-are-reported}
 use Rattle.account_writer.specs.Account.{accountText, writeAccount}
-use Rattle.report_writer.specs.Reports.{writeByLines, writeChecked}
+use Rattle.report_writer.specs.Reports.{writeByFault, writeChecked}
 
 -- ---- a refusal
 
@@ -166,14 +166,16 @@ module _ (input buffer : List ℕ) where
           ∙ as-report (report-by-lines (got syndromes []) lines)
 
       by-lines : (checked : SyndromeLines) → checkLines (own .r) (g .rest) ≡ checked
-          → writeByLines own at (g .rest) buffer checked ≡ writeReport input buffer
-      unfolding writeByLines reportOfSyndromes pairFault errorsFault
+          → writeByFault own (g .rest) buffer (linesFault (at + 1) checked) ≡ writeReport input buffer
+      unfolding writeByFault linesFault reportOfSyndromes pairFault errorsFault
       by-lines SyndromeLines.Read e =
-          let told = syndrome-lines-are-read .read own (at + 1) (g .rest) e in account-is (told .0) (told .1)
+          let told = syndrome-lines-are-read .read own (at + 1) (g .rest) (ap (linesFault (at + 1)) e) in
+          account-is (told .0) (told .1)
       by-lines (SyndromeLines.OffForm m) e =
           refusal-is-written (Refusal.Syndrome (at + 1 + m)) buffer refl
           ∙ as-report
-          (report-by-lines _ (syndrome-lines-are-read .offForm own (at + 1) (g .rest) m few-rows e))
+          (report-by-lines _
+          (syndrome-lines-are-read .offForm own (at + 1) (g .rest) _ few-rows (ap (linesFault (at + 1)) e)))
 
       pub checked-report : writeChecked (reading .code) (reading .«claim_at») (behind input (reading .answer)) buffer
           ≡ writeReport input buffer

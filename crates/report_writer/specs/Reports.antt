@@ -1,20 +1,21 @@
 -- The report of a code that passed its checks, by the check of the lines behind its sheet.
 use mathlib.Core.List.{List}
+use mathlib.Core.Option.{Option, none, some}
 use Prim.Native.Nat.{ℕ, _+_}
 use Rattle.code_record.specs.declared.Code.{Code}
 use Rattle.refusals.specs.declared.Refusal.{Refusal}
 use Rattle.refusals.specs.declared.Written.{Written}
 use Rattle.sheet.specs.Text.{After}
-use Rattle.syndrome_lines.specs.declared.SyndromeLines.{SyndromeLines}
-use Rattle.syndrome_lines.specs.SyndromeLines.{checkLines}
+use Rattle.syndrome_lines.specs.SyndromeLines.{checkLines, linesFault}
 use Rattle.refusal_writer.specs.RefusalLines.{writeRefusal}
 use Rattle.account_writer.specs.Account.{writeAccount}
 
--- RULES, "The report": 16 where a line is no syndrome's, behind so many that are; or the account of the code. The first
--- of them stands on the line behind w, which is on the line `at`.
-unfoldable pub writeByLines : Code → ℕ → List ℕ → List ℕ → SyndromeLines → After Written
-writeByLines c at s buffer SyndromeLines.Read = writeAccount c s buffer
-writeByLines c at s buffer (SyndromeLines.OffForm m) = writeRefusal (Refusal.Syndrome (at + 1 + m)) buffer
+-- RULES, "The report": the lines of the fault, or the account of the code.
+unfoldable pub writeByFault : Code → List ℕ → List ℕ → Option Refusal → After Written
+writeByFault c s buffer none = writeAccount c s buffer
+writeByFault c s buffer (some refusal) = writeRefusal refusal buffer
 
+-- RULES, "The report": 16 at the first line behind w that is no syndrome's. w is on the line `at`, and the first of
+-- them on the line behind it.
 unfoldable pub writeChecked : Code → ℕ → List ℕ → List ℕ → After Written
-writeChecked c at s buffer = writeByLines c at s buffer (checkLines (c .r) s)
+writeChecked c at s buffer = writeByFault c s buffer (linesFault (at + 1) (checkLines (c .r) s))

@@ -17,7 +17,8 @@ use Rattle.code_record.specs.Record.{mostQubits, mostDistance, longestInput, fi
 use Rattle.code_record.specs.Record.{mostGenerators}
 use Rattle.code_record.specs.Record.{between}
 use Rattle.code_record.proofs.Limits.{between-bounds}
-use Rattle.sheet.specs.Reader.{SheetRead, stop, done, begins, isLine, lineOf, readLine, readNumber, readRow, readLetters}
+use Rattle.sheet.specs.Reader.{SheetRead, stop, done, begins, isLine, lineOf, readLine, readNumber, readRow}
+use Rattle.sheet.specs.Reader.{readLetters}
 use Rattle.sheet.specs.Reader.{inRange, qubitLine, distanceLine, rowLine, rowsUpTo, countedGenerators, generatorLines}
 use Rattle.sheet.specs.Reader.{countedLogicals, logicalLines, claimLine, linesAfter, sheetLines, readLines}
 use Rattle.sheet.proofs.Outcome.{Outcome, gets, stops, continue-outcome, cond-outcome, gotOr-outcome}

@@ -10,14 +10,20 @@ use Prim.Native.Nat.{ℕ, zero, suc, _≤_, _<_}
 use native.Mathlib.Nat.{ℕ-set}
 use native.Mathlib.Omega.{arith}
 use lib.ListN.{length, length-append}
+use Rattle.letters.specs.Lists.{anyOf}
 use Rattle.code_record.specs.declared.Code.{Code}
 use Rattle.refusals.specs.declared.Refusal.{Refusal}
+use Rattle.refusals.specs.Refusals.{linesRefusal}
 use Rattle.sheet.specs.Reader.{SheetRead, Parsed, got, stop, continue, readLines, nothingBehind, readForm}
+use Rattle.sheet.specs.Reader.{answered, linesReading}
+use Rattle.sheet.specs.Statements.{Among}
 use Rattle.sheet.specs.Writer.{sheetText}
 use Rattle.sheet.proofs.Lengths.{sheetText-le}
+use Rattle.sheet.proofs.Numbers.{law-of-refusal, sheet-refusal-numbers}
 use Rattle.sheet.proofs.Outcome.{what-was-got}
 use Rattle.sheet.proofs.ReadBack.{reads-are-lawful, write-after-read}
 use Rattle.admission.specs.Admission.{codeFault, admitted, checked, readingOf, readSheet}
+use Rattle.admission.proofs.Refusals.{OfChecks, law-of-fault, checks-refuse}
 use Rattle.reporting.specs.Report.{syndromeLine, reportOfCode, reportOfLines, reportText}
 use Rattle.reporting.specs.Statements.{syndromeLineText, syndromesText, HaveBits, NoSyndrome, ReportOf}
 use Rattle.reporting.specs.Statements.{EveryReport}
@@ -80,6 +86,27 @@ module _ (c : Code) where
           (later behind (omega (arith, length-syndrome-line bits)))
       go (stop refusal) e later = split-bad (b ∷ s) refusal (omega arith) e
 
+-- ---- the numbers
+
+unread-number : (s : List ℕ) (refusal : Refusal) → readLines s ≡ stop refusal
+    → Among (1 ∷ 2 ∷ 3 ∷ 4 ∷ 5 ∷ []) refusal
+unfolding linesReading answered linesRefusal
+unread-number s refusal e =
+    sheet-refusal-numbers .lines s refusal (ap (λ p. linesRefusal (answered s p .answer)) e)
+
+checks-number : (at : ℕ) (c : Code) (refusal : Refusal) → OfChecks at c refusal
+    → Among (6 ∷ 7 ∷ 8 ∷ 9 ∷ 10 ∷ 11 ∷ 12 ∷ 13 ∷ 14 ∷ []) refusal
+unfolding anyOf
+checks-number at c refusal (OfChecks.six h) = refl
+checks-number at c refusal (OfChecks.seven h) = refl
+checks-number at c refusal (OfChecks.eight h) = refl
+checks-number at c refusal (OfChecks.nine h) = refl
+checks-number at c refusal (OfChecks.ten h) = refl
+checks-number at c refusal OfChecks.eleven = refl
+checks-number at c refusal OfChecks.twelve = refl
+checks-number at c refusal OfChecks.thirteen = refl
+checks-number at c refusal (OfChecks.fourteen s) = refl
+
 -- ---- a sheet that was read, and what stands behind it
 
 module _ (input : List ℕ) (q : SheetRead) (rest : List ℕ) (lines : readLines input ≡ got q rest) where
@@ -128,6 +155,7 @@ module _ (input : List ℕ) (q : SheetRead) (rest : List ℕ) (lines : readLines
       let split = split-lines c (length rest) rest (omega arith) in report-split e split (split .ended)
   report-read (some refusal) e =
       ReportOf.faulty sheet rest q refusal (input-is refl) sheet-form e
+      (law-of-refusal (law-of-fault (checks-number (q .claimAt) c) (checks-refuse (q .claimAt) c)) refusal e)
       (report-by-fault input q rest lines (some refusal) e)
 
 pub every-report : EveryReport
@@ -136,4 +164,4 @@ every-report input = go (readLines input) refl
   where
     go : (p : Parsed SheetRead) → readLines input ≡ p → ReportOf input
     go (got q rest) e = report-read input q rest e (codeFault (q .claimAt) (q .code)) refl
-    go (stop refusal) e = ReportOf.unread refusal e (ap reportOfLines e)
+    go (stop refusal) e = ReportOf.unread refusal e (unread-number input refusal e) (ap reportOfLines e)

@@ -6,24 +6,18 @@ use Prim.Native.String.{_++_}
 use Rattle.letters.specs.Lists.{bytes}
 use Rattle.pauli.proofs.Table.{each}
 use Rattle.sheet.specs.Starred.{Entry, starred}
-use Rattle.admission.specs.Admission.{admissionRefusal, readSheet}
 use Rattle.admission.proofs.Starred.{starred-answers}
 use Rattle.reporting.specs.Definitions.{definitions}
 use Rattle.reporting.specs.Report.{reportText}
-use Rattle.reporting.specs.Statements.{IsReported}
+use Rattle.reporting.specs.Statements.{StarredAreRight}
 use Rattle.reporting.proofs.Call.{is-reported}
-
-pub record Right (e : Entry) : Type 0 where
-  pub answer : admissionRefusal (readSheet (bytes (e .sheet)) .answer) ≡ e .refusal
-  pub report : reportText (bytes (e .sheet ++ e .behind)) ≡ bytes (e .report)
-  pub call : IsReported (bytes (e .sheet ++ e .behind)) (bytes (e .report))
 
 starred-reports : (e : Entry) → List·Memᴰ e starred → reportText (bytes (e .sheet ++ e .behind)) ≡ bytes (e .report)
 unfolding definitions
 starred-reports = each (λ e. reportText (bytes (e .sheet ++ e .behind))) (λ e. bytes (e .report)) starred refl
 
 -- Every starred sheet has the answer and the report that the table gives it.
-pub starred-right : (e : Entry) → List·Memᴰ e starred → Right e
+pub starred-right : StarredAreRight
 starred-right e m = record {
   answer = starred-answers e m;
   report = starred-reports e m;

@@ -1,10 +1,11 @@
 -- What is stated of the report.
 use mathlib.Core.Bool.{Bool, true}
-use mathlib.Core.List.{List, [], _∷_, _++_, map, flatMap, List·Mem}
+use mathlib.Core.List.{List, [], _∷_, _++_, map, flatMap, List·Mem, List·Memᴰ}
 use mathlib.Core.Logic.{_⊎_}
 use mathlib.Core.Option.{some}
 use mathlib.Core.Path.{_≡_}
 use Prim.Native.Nat.{ℕ, _+_, _≤_, _<_}
+use Prim.Native.String.{_++_ as _⧺_}
 use lib.ListN.{length}
 use Rattle.pauli.specs.declared.Pauli.{Pauli}
 use Rattle.pauli.specs.Letters.{letterText}
@@ -19,10 +20,11 @@ use Rattle.refusals.specs.declared.Written.{Written}
 use Rattle.code_record.specs.Record.{generators, onQubits, radius, longestInput}
 use Rattle.refusals.specs.Refusals.{writtenRefusal}
 use Rattle.sheet.specs.Reader.{SheetRead, got, stop, readLines, readForm}
+use Rattle.sheet.specs.Starred.{Entry, starred}
 use Rattle.sheet.specs.Statements.{RefusalLeaves, Among}
 use Rattle.sheet.specs.Text.{line, decimal, After, laid, untouched}
 use Rattle.admission.specs.declared.Admission.{Admission}
-use Rattle.admission.specs.Admission.{AdmissibleButForDistance, codeFault, admitted, readSheet}
+use Rattle.admission.specs.Admission.{AdmissibleButForDistance, codeFault, admitted, admissionRefusal, readSheet}
 use Rattle.admission.specs.Statements.{FromEarliest}
 use Rattle.decoder.specs.Syndrome.{syndromeText}
 use Rattle.decoder.specs.Statements.{IsCorrected, Refutes, RefusedForDistance}
@@ -117,13 +119,16 @@ LogicalsAreNotReported =
 
 -- ---- every report
 
--- Every report is one of these: a refusal of the lines' form; a refusal of 6 to 14; a refusal of the first line behind
--- w that is no syndrome's; the account of an admitted sheet, with a correction for each syndrome behind it.
+-- Every report is one of these: a refusal of 1 to 5, of the lines; a refusal of 6 to 14; 16 at the first line behind w
+-- that is no syndrome's; the account of an admitted sheet, with a correction for each syndrome behind it. So no report
+-- has another number.
 pub data ReportOf (input : List ℕ) : Type 0 where
-  unread : (refusal : Refusal) → readLines input ≡ stop refusal → reportText input ≡ refusalText refusal
-      → ReportOf input
+  unread : (refusal : Refusal) → readLines input ≡ stop refusal → Among (1 ∷ 2 ∷ 3 ∷ 4 ∷ 5 ∷ []) refusal
+      → reportText input ≡ refusalText refusal → ReportOf input
   faulty : (s rest : List ℕ) (q : SheetRead) (refusal : Refusal) → input ≡ s ++ rest → readForm s ≡ got q []
-      → codeFault (q .claimAt) (q .code) ≡ some refusal → reportText input ≡ refusalText refusal → ReportOf input
+      → codeFault (q .claimAt) (q .code) ≡ some refusal
+      → Among (6 ∷ 7 ∷ 8 ∷ 9 ∷ 10 ∷ 11 ∷ 12 ∷ 13 ∷ 14 ∷ []) refusal → reportText input ≡ refusalText refusal
+      → ReportOf input
   misread : (s rest : List ℕ) (q : SheetRead) (syndromes : List (List Bool))
       → input ≡ s ++ (syndromesText syndromes ++ rest) → readForm s ≡ got q [] → readSheet s ≡ admitted (q .code)
       → HaveBits (q .code .r) syndromes → 0 < length rest → NoSyndrome (q .code .r) rest
@@ -194,3 +199,15 @@ pub record GuaranteedReport (input buffer : List ℕ) (after : After Written) : 
 
 abbrev pub GuaranteeInReports : Type 0
 GuaranteeInReports = (input buffer : List ℕ) → GuaranteedReport input buffer (writeReport input buffer)
+
+-- ---- the starred sheets
+
+-- An entry of the table is right: the answer of the sheet read by itself, the bytes of the report, and what the report's
+-- call writes.
+pub record Right (e : Entry) : Type 0 where
+  pub answer : admissionRefusal (readSheet (bytes (e .sheet)) .answer) ≡ e .refusal
+  pub report : reportText (bytes (e .sheet ⧺ e .behind)) ≡ bytes (e .report)
+  pub call : IsReported (bytes (e .sheet ⧺ e .behind)) (bytes (e .report))
+
+abbrev pub StarredAreRight : Type 0
+StarredAreRight = (e : Entry) → List·Memᴰ e starred → Right e

@@ -1,6 +1,7 @@
 -- The readers against the report's definitions: one line, and then by the steps of a report's lines.
 use mathlib.Core.Bool.{Bool, true, false, cond}
 use mathlib.Core.List.{List, [], _∷_}
+use mathlib.Core.Option.{none, some, Option·none-ne-some, Option·some-ne-none, Option·some-injective}
 use mathlib.Core.Path.{_≡_, refl, ap, sym, _∙_}
 use Prim.Native.Nat.{ℕ, zero, suc, _+_, _≤_}
 use native.Mathlib.Omega.{arith}
@@ -19,6 +20,7 @@ use Rattle.reporting.specs.Report.{syndromeLine}
 use Rattle.reporting.proofs.Steps.{before, linesFrom, lines-ended, lines-got, lines-stopped}
 use Rattle.syndrome_lines.specs.declared.SyndromeLines.{SyndromeLines}
 use Rattle.syndrome_lines.specs.SyndromeLines.{maskLine, syndromeLength, oneMore, checkLines}
+use Rattle.syndrome_lines.specs.SyndromeLines.{lineFault, linesFault}
 use Rattle.syndrome_lines.specs.Statements.{SyndromeLinesAreRead}
 use Rattle.syndrome_lines.proofs.Lines.{no-mask, check-ended, check-off, check-more}
 
@@ -137,10 +139,32 @@ module _ (c : Code) where
           lines-stopped c at (b ∷ s) (Refusal.Syndrome at) (omega arith) (malformed at (b ∷ s) room f)
           ∙ ap (λ (i : ℕ). stop (Refusal.Syndrome i)) place
 
+-- ---- by what the answers refuse
+
+malformed-told : (at : ℕ) (x : SyndromeRead) (refusal : Refusal) → lineFault at x ≡ some refusal
+    → (x ≡ SyndromeRead.Malformed) × (Refusal.Syndrome at ≡ refusal)
+unfolding lineFault
+malformed-told at (SyndromeRead.Mask m) refusal e = absurd (Option·none-ne-some refusal e)
+malformed-told at SyndromeRead.Malformed refusal e = (refl, Option·some-injective _ refusal e)
+
+read-told : (at : ℕ) (lines : SyndromeLines) → linesFault at lines ≡ none → lines ≡ SyndromeLines.Read
+unfolding linesFault
+read-told at SyndromeLines.Read e = refl
+read-told at (SyndromeLines.OffForm m) e = absurd (Option·some-ne-none _ e)
+
+off-told : (at : ℕ) (lines : SyndromeLines) (refusal : Refusal) → linesFault at lines ≡ some refusal
+    → (m : ℕ) × (lines ≡ SyndromeLines.OffForm m) × (Refusal.Syndrome (at + m) ≡ refusal)
+unfolding linesFault
+off-told at SyndromeLines.Read refusal e = absurd (Option·none-ne-some refusal e)
+off-told at (SyndromeLines.OffForm m) refusal e = (m, refl, Option·some-injective _ refusal e)
+
 pub syndrome-lines-are-read : SyndromeLinesAreRead
 syndrome-lines-are-read = record {
   line = line;
-  malformed = malformed;
-  read = λ c at s. read c (length s) at s (omega arith);
-  offForm = λ c at s m few. off-form c few (length s) at s m (omega arith);
+  malformed = λ c at s refusal few e.
+      let told = malformed-told at _ refusal e in malformed c at s few (told .0) ∙ ap stop (told .1);
+  read = λ c at s e. read c (length s) at s (omega arith) (read-told at _ e);
+  offForm = λ c at s refusal few e.
+      let told = off-told at _ refusal e in
+      off-form c few (length s) at s (told .0) (omega arith) (told .1) ∙ ap stop (told .2);
 }

@@ -1,9 +1,11 @@
 -- The lines of syndromes, each read as a mask.
 use mathlib.Core.Bool.{cond}
 use mathlib.Core.List.{List, [], _∷_}
+use mathlib.Core.Option.{Option, none, some}
 use Prim.Native.Nat.{ℕ, zero, suc, _+_}
 use lib.ListN.{length, take, drop}
 use Rattle.letters.specs.Lists.{bytes}
+use Rattle.refusals.specs.declared.Refusal.{Refusal}
 use Rattle.sheet.specs.Reader.{isLine}
 use Rattle.syndrome_reader.specs.declared.SyndromeRead.{SyndromeRead}
 use Rattle.syndrome_reader.specs.Mask.{readMask}
@@ -38,3 +40,15 @@ checkedLines (suc most) r (b ∷ s) =
 -- A line has a byte at least, so as many lines as bytes are enough.
 unfoldable pub checkLines : ℕ → List ℕ → SyndromeLines
 checkLines r s = checkedLines (length s) r s
+
+-- ---- what the answers refuse
+
+-- RULES, "Refusals": 16 where a line, the one numbered `at`, is no syndrome's.
+unfoldable pub lineFault : ℕ → SyndromeRead → Option Refusal
+lineFault at (SyndromeRead.Mask m) = none
+lineFault at SyndromeRead.Malformed = some (Refusal.Syndrome at)
+
+-- RULES, "Refusals": 16 at the first line that is no syndrome's, where the first of all is numbered `at`.
+unfoldable pub linesFault : ℕ → SyndromeLines → Option Refusal
+linesFault at SyndromeLines.Read = none
+linesFault at (SyndromeLines.OffForm m) = some (Refusal.Syndrome (at + m))

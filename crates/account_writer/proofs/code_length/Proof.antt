@@ -1,12 +1,11 @@
 -- The lengths of the two parts, summed up.
-use mathlib.Core.List.{List}
-use mathlib.Core.Path.{_≡_, ap, ap₂, sym, _∙_}
+use mathlib.Core.Path.{_≡_, ap₂, sym, _∙_}
 use Prim.Native.Nat.{ℕ, _+_, _*_, _^_, _≤_}
 use native.Mathlib.Nat.{mul-le-mul}
 use native.Mathlib.Omega.{arith}
 use lib.ListN.{length}
 use Rattle.code_record.specs.declared.Code.{Code}
-use Rattle.code_record.specs.Record.{rowRoom, pairCount, logicalCount, radius}
+use Rattle.code_record.specs.Record.{pairCount, logicalCount, radius}
 use Rattle.header_writer.specs.Header.{headerText}
 use Rattle.header_writer.proofs.Header.{length-headerText}
 use Rattle.number_writer.proofs.Numbers.{length-decimal-le}

@@ -69,7 +69,8 @@ returns c =
     let at = c .before .before in
     let short = leb-false (length (text at)) (length (start at .args .out .now))
     (failed (c .before .account-fits .ensures) (c .if1 .taken)) in
-    let e = sym (written-short (own at) (start at .args .out .now) refl (omega (arith, short, ap length (same-text at)))) in
+    let e = sym
+    (written-short (own at) (start at .args .out .now) refl (omega (arith, short, ap length (same-text at)))) in
     (ap (λ after. after .answer) e, ap (λ after. after .buffer) e)
 
 account-lines-requires : tie.Need-account-lines-requires

@@ -1,6 +1,5 @@
 -- The answer by the tests, and by the count where they do not decide.
 use mathlib.Core.Logic.{inl, inr}
-use native.Mathlib.Omega.{arith}
 use Rattle.correction_lines.proofs.Fits.{fit-outside, fit-counted, fit-always}
 use borrow.Author.Needs.{needs}
 use Rattle.correction_lines.proofs.corrections_fit.Statement.{statement}

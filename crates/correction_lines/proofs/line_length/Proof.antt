@@ -1,5 +1,5 @@
 -- The length of each case's line.
-use mathlib.Core.Path.{_≡_, ap, sym, _∙_}
+use mathlib.Core.Path.{ap, sym, _∙_}
 use lib.ListN.{length}
 use Rattle.corrections.specs.declared.Correction.{Correction}
 use Rattle.correction_writer.specs.Lines.{correctionText}

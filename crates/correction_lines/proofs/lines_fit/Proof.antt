@@ -73,7 +73,9 @@ module _ (c : tie.After-line-length Inv-loop μ-loop) where
   within = line-within (words here) (t here) (r here) (s here) (here .loop .inv .passed) line-read
 
   counted : c .line-length .result ≡ length (lineFor (words here) (t here) (r here) mask)
-  counted = c .line-length .ensures ∙ ap (λ k. length (correctionText (words here .qubits) k)) (c .before .correct-by .ensures)
+  counted =
+      c .line-length .ensures
+      ∙ ap (λ k. length (correctionText (words here .qubits) k)) (c .before .correct-by .ensures)
 
 -- ---- the needs
 

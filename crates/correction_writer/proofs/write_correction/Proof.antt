@@ -1,5 +1,4 @@
 -- The call answers as the one that it makes for the case.
-use mathlib.Core.List.{List}
 use mathlib.Core.Path.{ap, _∙_}
 use Rattle.letters.specs.Lists.{bytes}
 use Rattle.correction_writer.proofs.Lines.{found-written, none-written}

@@ -6,7 +6,8 @@ use native.Mathlib.Omega.{arith}
 use lib.ListN.{length}
 use Rattle.syndrome_lines.specs.declared.SyndromeLines.{SyndromeLines}
 use Rattle.syndrome_lines.proofs.Lines.{linesBefore, few-before}
-use Rattle.report_writer.specs.Reports.{writeByLines, writeChecked}
+use Rattle.syndrome_lines.specs.SyndromeLines.{linesFault}
+use Rattle.report_writer.specs.Reports.{writeByFault, writeChecked}
 use borrow.Author.Needs.{needs}
 use Rattle.report_writer.proofs.report_of_code.Statement.{statement}
 use Rattle.report_writer.proofs.report_of_code.Tie as tie
@@ -22,11 +23,12 @@ module _ (c : tie.After-check-syndromes) where
   buffer = start .args .out .now
 
   by-answer : {answer : SyndromeLines} → c .check-syndromes .result ≡ answer
-      → writeByLines (start .args .code) (start .args .at) s buffer answer
+      → writeByFault (start .args .code) s buffer (linesFault (start .args .at + 1) answer)
       ≡ writeChecked (start .args .code) (start .args .at) s buffer
   unfolding writeChecked
   by-answer told =
-      ap (writeByLines (start .args .code) (start .args .at) s buffer) (sym told ∙ c .check-syndromes .ensures)
+      ap (λ lines. writeByFault (start .args .code) s buffer (linesFault (start .args .at + 1) lines))
+      (sym told ∙ c .check-syndromes .ensures)
 
   -- The lines before a fault are no more than the bytes.
   few : {m : ℕ} → c .check-syndromes .result ≡ SyndromeLines.OffForm m → m ≤ length s
@@ -42,7 +44,7 @@ add-t11 c =
     record { fits = omega (arith, few checks (c .before .before2 .given .1), start checks .pre) }
 
 returns : tie.Need-returns
-unfolding writeByLines
+unfolding writeByFault linesFault
 returns c =
     let call = c .before .before .write-account in
     let checks = c .before .before .before .before .before .before in
@@ -50,7 +52,7 @@ returns c =
     (call .ensures .0 ∙ ap (λ after. after .answer) e, call .ensures .1 ∙ ap (λ after. after .buffer) e)
 
 returns-2 : tie.Need-returns-2
-unfolding writeByLines
+unfolding writeByFault linesFault
 returns-2 c =
     let call = c .before .before .write-refusal in
     let told = c .before .before .before .before .before in

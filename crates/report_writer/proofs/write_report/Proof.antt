@@ -1,9 +1,8 @@
--- The report by what was read and checked. The third guarantee then holds of what the call leaves, since it holds of the
+-- The report by what was read and checked. The third guarantee holds of what the call leaves, since it holds of the
 -- definition.
 use mathlib.Core.List.{List}
-use mathlib.Core.Option.{none, some}
-use mathlib.Core.Path.{_≡_, ap, sym, subst, _∙_}
-use Prim.Native.Nat.{ℕ, _+_, _≤_}
+use mathlib.Core.Path.{_≡_, ap, sym, _∙_}
+use Prim.Native.Nat.{ℕ}
 use native.Mathlib.Omega.{arith}
 use lib.ListN.{length}
 use Rattle.code_record.specs.declared.LinesReading.{LinesReading}
