@@ -202,8 +202,8 @@ GuaranteeInReports = (input buffer : List ℕ) → GuaranteedReport input buffer
 
 -- ---- the starred sheets
 
--- An entry of the table is right: the answer of the sheet read by itself, the bytes of the report, and what the report's
--- call writes.
+-- An entry of the table is right: the answer of the sheet read by itself, the bytes of the report, and what the call
+-- for a report writes.
 pub record Right (e : Entry) : Type 0 where
   pub answer : admissionRefusal (readSheet (bytes (e .sheet)) .answer) ≡ e .refusal
   pub report : reportText (bytes (e .sheet ⧺ e .behind)) ≡ bytes (e .report)
