@@ -23,7 +23,7 @@ use std::time::{SystemTime, UNIX_EPOCH};
 /// So many runs of the program at a time.
 const WORKERS: usize = 2;
 
-/// So many of the inputs that fail are shown, and so many bytes of each.
+/// So many of the inputs that fail are shown, of the fixed ones and of those from seeds, and so many bytes of each.
 const SHOWN: usize = 5;
 const SHOWN_BYTES: usize = 6_000;
 
@@ -69,20 +69,22 @@ pub fn compare(program: &Path, seed: Option<u64>) -> ExitCode {
     let seed = seed.unwrap_or_else(now);
     println!("seed {seed}");
     let inputs = fixed::inputs();
-    let mut all = judged(program, inputs.len(), &|at| inputs[at].clone());
+    let fixed = judged(program, inputs.len(), &|at| inputs[at].clone());
     let of_seeds = judged(program, generated::COUNT, &|at| {
         generated::input(seed.wrapping_add(at as u64))
     });
     let missing = of_seeds.occurred.missing();
     println!("the inputs from seeds have {}", of_seeds.occurred);
-    all.add(of_seeds);
     for what in &missing {
         println!("--- {what} did not occur");
     }
-    for (_, shown) in all.shown.iter().take(SHOWN) {
-        println!("{shown}");
+    for tally in [&fixed, &of_seeds] {
+        for (_, shown) in tally.shown.iter().take(SHOWN) {
+            println!("{shown}");
+        }
     }
-    told(all.passed, all.failed + missing.len())
+    let failed = fixed.failed + of_seeds.failed + missing.len();
+    told(fixed.passed + of_seeds.passed, failed)
 }
 
 /// Runs the program on the input of one seed, and shows that.
