@@ -6,9 +6,13 @@ use crate::admission::{self, Fault};
 use crate::cases::{Case, Kind};
 use crate::group::member;
 use crate::product::{commute, product};
-use crate::record::{write_number, write_numbers, Pauli, Record};
+use crate::record::{put, write_number, write_numbers, Pauli, Record};
+use crate::report;
 use crate::sheet::{self, Letter, Refusal, Row, Sheet};
 use std::fmt::Display;
+
+/// So many bytes hold every report.
+const REPORT_ROOM: usize = 32768;
 
 pub fn answer(case: &Case) -> Vec<u8> {
     match case.kind {
@@ -20,6 +24,7 @@ pub fn answer(case: &Case) -> Vec<u8> {
         Kind::Checks => checks(&case.text, case.change).into(),
         Kind::Decodings => decodings::decodings(&case.text, case.change),
         Kind::Corrections => decodings::corrections(&case.text),
+        Kind::Report => report(&case.text),
     }
 }
 
@@ -207,6 +212,20 @@ fn pair(errors: &[Vec<Letter>; 2]) -> String {
         format!(" {p} {a} {b}")
     };
     errors.iter().map(numbers).collect()
+}
+
+/// What the writer of a report does with as many bytes as hold every report, with a byte less than this report takes,
+/// and with as many.
+fn report(input: &[u8]) -> Vec<u8> {
+    let report = report::report(input);
+    let used = report.len();
+    let rooms = [
+        ("longer", REPORT_ROOM),
+        ("short", used - 1),
+        ("exact", used),
+    ];
+    let written = |(name, room)| written(name, room, |out| put(&report, out));
+    rooms.into_iter().flat_map(written).collect()
 }
 
 /// What a writer does with a byte less than its lines take, with as many, and with three more.

@@ -5,9 +5,12 @@
 
 const HEADER: usize = 10;
 
+/// The longest text that the test program takes.
+pub const LONGEST_TEXT: usize = 65535;
+
 /// Products of rows; a sheet that is read and written; single lines of a sheet; the group of a sheet's generators; the
 /// admission of a sheet; the checks of a record; syndromes and corrections of a record; the corrections of errors on an
-/// admitted code. Of the last two the text has questions before the sheet.
+/// admitted code; the report on an input. Of the two before the last the text has questions before the sheet.
 #[derive(Clone, Copy, PartialEq, Eq, Hash, Debug)]
 pub enum Kind {
     Products,
@@ -18,10 +21,11 @@ pub enum Kind {
     Checks,
     Decodings,
     Corrections,
+    Report,
 }
 
 impl Kind {
-    const ALL: [Kind; 8] = [
+    const ALL: [Kind; 9] = [
         Kind::Products,
         Kind::Sheet,
         Kind::Lines,
@@ -30,6 +34,7 @@ impl Kind {
         Kind::Checks,
         Kind::Decodings,
         Kind::Corrections,
+        Kind::Report,
     ];
 
     fn letter(self) -> char {
@@ -42,6 +47,7 @@ impl Kind {
             Kind::Checks => 'c',
             Kind::Decodings => 'd',
             Kind::Corrections => 'e',
+            Kind::Report => 'r',
         }
     }
 }
@@ -75,7 +81,7 @@ impl Case {
 
     pub fn bytes(&self) -> Vec<u8> {
         let len = self.text.len();
-        assert!(len <= 65535);
+        assert!(len <= LONGEST_TEXT);
         let header = format!("{}{:02} {len:05}\n", self.kind.letter(), self.change);
         [header.as_bytes(), &self.text].concat()
     }

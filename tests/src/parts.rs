@@ -5,6 +5,7 @@ mod codes;
 mod decodings;
 mod groups;
 mod products;
+mod reports;
 mod sheets;
 
 use crate::cases::{Case, Kind};
@@ -48,6 +49,7 @@ fn parts() -> Vec<Part> {
     parts.extend(groups::parts());
     parts.extend(admissions::parts(codes));
     parts.extend(decodings::parts(codes));
+    parts.extend(reports::parts());
     parts
 }
 

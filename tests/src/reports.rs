@@ -13,6 +13,7 @@ mod occurred;
 use crate::program::{run, text};
 use crate::report::report;
 use crate::sheet::Letter;
+pub use codes::MOST_BYTES;
 use judgement::fault;
 use occurred::Occurred;
 use std::path::Path;
@@ -62,6 +63,17 @@ impl From<Vec<u8>> for Input {
             ..Input::default()
         }
     }
+}
+
+/// The bytes of the inputs that are the same in each run.
+pub fn fixed_inputs() -> impl Iterator<Item = Vec<u8>> {
+    fixed::inputs().into_iter().map(|input| input.bytes)
+}
+
+/// The bytes of inputs from seeds: in a round of them, one of so many.
+pub fn inputs_of_round(step: usize) -> impl Iterator<Item = Vec<u8>> {
+    let seeds = (0..generated::ROUND).step_by(step);
+    seeds.map(|seed| generated::input(seed as u64).bytes)
 }
 
 /// Runs the program on all inputs. Without a seed the clock gives one.

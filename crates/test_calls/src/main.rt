@@ -2,11 +2,12 @@
 // Standard input is a run of cases, each of one kind: "p" for products of rows, "s" for a sheet that is read and
 // written back, "l" for single lines of a sheet, "g" for the group of a sheet's generators, "a" for the admission of a
 // sheet, "c" for the checks of a record, "d" for syndromes and corrections of a record, "e" for the corrections of
-// errors on an admitted code.
+// errors on an admitted code, "r" for the report on a sheet and the lines behind it.
 mod admissions;
 mod decodings;
 mod groups;
 mod products;
+mod reports;
 mod sheets;
 mod single_lines;
 mod words;
@@ -18,6 +19,7 @@ use decodings::answer_corrections;
 use decodings::answer_decodings;
 use groups::answer_group;
 use products::answer_products;
+use reports::answer_report;
 use sheets::answer_sheet;
 use single_lines::answer_lines;
 use test_cases::Case;
@@ -44,6 +46,7 @@ fn answer(kind: u8, change: usize, text: &[u8]) {
         b'c' => answer_checks(text, change),
         b'd' => answer_decodings(text, change),
         b'e' => answer_corrections(text),
+        b'r' => answer_report(text),
         _ => print(b"no kind of case\n"),
     }
 }

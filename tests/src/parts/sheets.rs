@@ -25,7 +25,7 @@ pub fn parts() -> Vec<Part> {
         Part::kept(texts(refused_by_each_number())),
         Part::kept(texts(damage::prefixes(A.as_bytes()))),
         Part::kept(changed_a),
-        Part::sampled(10, changed),
+        Part::sampled(8, changed),
         Part::sampled(0, texts(samples::repetitions())),
         Part::sampled(4, texts(any_form(&mut random))),
         Part::sampled(3, texts(codes(&mut random))),

@@ -41,8 +41,11 @@ const ROUNDS: usize = 3;
 /// One of so many inputs comes slowly.
 const SLOW: u64 = 64;
 
+/// So many inputs have each kind with each size once.
+pub const ROUND: usize = (KINDS.len() + DAMAGES.len()) * SIZES;
+
 /// So many inputs has a run.
-pub const COUNT: usize = ROUNDS * (KINDS.len() + DAMAGES.len()) * SIZES;
+pub const COUNT: usize = ROUNDS * ROUND;
 
 pub fn input(seed: u64) -> Input {
     let (kind, size) = kind_and_size(seed);
@@ -265,7 +268,7 @@ mod tests {
             for seed in first..first + COUNT as u64 {
                 *counts.entry(kind_and_size(seed)).or_default() += 1;
             }
-            assert_eq!(counts.len(), COUNT / ROUNDS);
+            assert_eq!(counts.len(), ROUND);
             assert!(counts.values().all(|&count| count == ROUNDS));
         }
     }
