@@ -5,6 +5,7 @@
 
 mod codes;
 mod damaged;
+mod failing;
 mod fixed;
 mod generated;
 mod judgement;
@@ -24,9 +25,8 @@ use std::time::{SystemTime, UNIX_EPOCH};
 /// So many runs of the program at a time.
 const WORKERS: usize = 2;
 
-/// So many of the inputs that fail are shown, of the fixed ones and of those from seeds, and so many bytes of each.
+/// So many of the inputs that fail are shown, of the fixed ones and of those from seeds.
 const SHOWN: usize = 5;
-const SHOWN_BYTES: usize = 6_000;
 
 /// In so many pieces an input comes that comes slowly.
 const PIECES: usize = 3;
@@ -95,8 +95,10 @@ pub fn compare(program: &Path, seed: Option<u64>) -> ExitCode {
             println!("{shown}");
         }
     }
-    let failed = fixed.failed + of_seeds.failed + missing.len();
-    told(fixed.passed + of_seeds.passed, failed)
+    let silent = failing::failures_that_are_not_told(program);
+    let told_of = failing::WAYS - silent;
+    let failed = fixed.failed + of_seeds.failed + missing.len() + silent;
+    told(fixed.passed + of_seeds.passed + told_of, failed)
 }
 
 /// Runs the program on the input of one seed, and shows that.
@@ -187,25 +189,15 @@ fn shown(input: &Input, output: &Output, said: &str) -> String {
     let Input { name, bytes, .. } = input;
     let pieces = if input.slowly { " in pieces" } else { "" };
     let parts = [
-        format!("--- {name}{pieces} {said}\n{}", cut_text(bytes)),
-        format!("--- has to be reported\n{}", cut_text(&report(bytes))),
+        format!("--- {name}{pieces} {said}\n{}", text(bytes)),
+        format!("--- has to be reported\n{}", text(&report(bytes))),
         format!(
             "--- and is reported ({})\n{}",
             output.status,
-            cut_text(&output.stdout)
+            text(&output.stdout)
         ),
         format!("--- with this on standard error\n{}", text(&output.stderr)),
     ];
     let has_errors = !output.stderr.is_empty();
     parts[..3 + usize::from(has_errors)].join("\n")
-}
-
-fn cut_text(bytes: &[u8]) -> String {
-    match bytes.get(..SHOWN_BYTES) {
-        Some(front) if front.len() < bytes.len() => {
-            let behind = bytes.len() - front.len();
-            format!("{}\n(and {behind} bytes more)", text(front))
-        }
-        _ => text(bytes),
-    }
 }

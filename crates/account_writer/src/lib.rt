@@ -1,5 +1,5 @@
 // The writer of a code's account in a report: its numbers, its canonical generators, and the corrections for the
-// syndromes behind its sheet. The words for these are made once.
+// syndromes behind its sheet. The words of the code's letters are made once for all syndromes.
 use code_record::Code;
 use code_record::pair_count;
 use correction_lines::corrections_fit;
@@ -48,7 +48,7 @@ fn code_length(code: Code, reduced: ReducedRows) -> usize
     header_length(code.n, k, code.d, radius(code)) + rows_there(reduced.count) * (code.n + 4)
 }
 
-// Whether the corrections have room behind them.
+// Whether so many bytes hold all lines.
 fn account_fits(
     code: Code,
     reduced: ReducedRows,

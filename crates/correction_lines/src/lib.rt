@@ -13,9 +13,10 @@ ghost use Rattle.code_record.specs.Record.{mostQubits};
 ghost use Rattle.correction_writer.specs.Lines.{correctionText};
 ghost use Rattle.correction_lines.specs.CorrectionLines.{correctionsText, correctionsFit};
 
-// The fewest bytes of a line that tells a syndrome of one generator, and the most of one that tells a correction.
+// The shortest `s=` line, of one generator.
 const SHORTEST_SYNDROME: usize = 4;
 
+// The longest `c=` line, of 24 letters.
 const LONGEST_CORRECTION: usize = 27;
 
 // How many bytes the line of a correction on n qubits has.
@@ -51,8 +52,9 @@ fn lines_fit(words: LetterWords, t: usize, r: usize, syndromes: &[u8], room: usi
 }
 
 // Whether the lines of the corrections fit into so many bytes, for the `s=` lines of r generators with which the bytes
-// begin. No record has words for another count of qubits than 2 to 24, and then none fit. Where there is room for the
-// longest line behind every syndrome nothing is searched for.
+// begin. For another count of qubits than 2 to 24, which no record has, the answer is no. Where there is room for the
+// longest line behind every syndrome nothing is searched for. With r = 0, which no record has, an `s=` line is shorter
+// than that counts, so the lines are counted one by one.
 pub fn corrections_fit(
     words: LetterWords,
     t: usize,

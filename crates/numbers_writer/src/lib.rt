@@ -49,8 +49,9 @@ fn room_behind(key: &[u8], m: usize, room: usize) -> usize
 }
 
 // The lines of two numbers, into an output buffer: 17 where the buffer is shorter than the lines, then the lines' bytes
-// and their count. A key is all that stands before the digits. The second line does not fit where, of one byte more,
-// none would be left behind it; nor does it where the first does not, since it has two bytes at least.
+// and their count. A key is all that stands before the digits. `room_behind` answers 0 where nothing is left and also
+// where the line does not fit, so it is asked with one byte more than there is: 0 then means that the second line does
+// not fit. Where the first does not fit, that is one byte, and every line has two at least.
 pub fn write_numbers(
     first_key: &[u8],
     first: usize,

@@ -42,7 +42,7 @@ fn report(input: &[u8], out: &mut [u8]) -> usize
     write_report(input, out).count()
 }
 
-// Where a read fails there is no report, since the input is not known; and where a write fails the report is cut off.
+// Where a read fails there is no report, since the input is not known; where a write fails the report may be cut off.
 // Both are told on standard error.
 fn main() {
     let mut input = io::large_buffer();

@@ -29,11 +29,12 @@ use Rattle.decoder.proofs.Bits.{syndromes-have-r-bits}
 use Rattle.decoder.proofs.Guarantee.{errors-are-corrected, distance-is-decided}
 use Rattle.reporting.specs.Report.{errorsText, refusalText, correctionLine, codeText, reportText, writeReport}
 use Rattle.reporting.specs.Statements.{syndromeLineText, Struck, errorLines, correctedLines, refutationText}
-use Rattle.reporting.specs.Statements.{CorrectsInReport, RefutesInReport, GuaranteeInReports}
+use Rattle.reporting.specs.Statements.{CorrectsInReport, AnswersInReport, RefutesInReport}
+use Rattle.reporting.specs.Statements.{GuaranteeInReports}
 use Rattle.reporting.proofs.Call.{is-reported}
 use Rattle.reporting.proofs.Lists.{lines-of-mapped, same-lines}
 use Rattle.reporting.proofs.Report.{corrections-are-reported, refusals-are-reported}
-use Rattle.reporting.proofs.Report.{lines-before, report-answered}
+use Rattle.reporting.proofs.Report.{syndromes-are-reported, lines-before, report-answered}
 
 -- ---- corrections
 
@@ -123,8 +124,18 @@ guarantee-in-reports input buffer = record {
         corrected = struck-corrected s h;
         writes = is-reported _ _ (corrections-reported s h errors (short e few)) buffer;
       });
-  refuted = λ s rest q refusal lawful refused e few. as-input input _ buffer e (RefutesInReport q buffer)
-      (refuted-reported s rest q refusal lawful refused (short e few) buffer);
+  answered = λ s h syndromes counts e few.
+      as-input input _ buffer e (AnswersInReport (readSheet s .code) syndromes buffer)
+      (record {
+        corrected = struck-corrected s h;
+        shown = λ E. corrections-are-reported (readSheet s .code) (E .error) (struck-corrected s h E);
+        writes = is-reported _ _ (syndromes-are-reported s syndromes h counts (short e few)) buffer;
+      });
+  refuted = λ s rest q lawful refuted e few.
+      let refused = distance-is-decided .exactly s q lawful .1 refuted in
+      as-input input _ buffer e (RefutesInReport q buffer)
+      (refuted-reported s rest q (refused .0) lawful (refused .1) (short e few) buffer);
+  otherwise = distance-is-decided .otherwise;
 }
   where
     short : {whole : List ℕ} → input ≡ whole → length input ≤ longestInput → length whole ≤ longestInput

@@ -27,7 +27,7 @@ use Rattle.admission.specs.declared.Admission.{Admission}
 use Rattle.admission.specs.Admission.{AdmissibleButForDistance, codeFault, admitted, admissionRefusal, readSheet}
 use Rattle.admission.specs.Statements.{FromEarliest}
 use Rattle.decoder.specs.Syndrome.{syndromeText}
-use Rattle.decoder.specs.Statements.{IsCorrected, Refutes, RefusedForDistance}
+use Rattle.decoder.specs.Statements.{IsCorrected, Refutes, Refuted}
 use Rattle.reporting.specs.Report.{longestReport, codeText, correctionLine, refusalText, reportText, writeReport}
 
 -- ---- the call
@@ -178,6 +178,15 @@ pub record CorrectsInReport (c : Code) (errors : List (Struck c)) (buffer : List
   pub corrected : (E : Struck c) → IsCorrected c (E .error)
   pub writes : WritesReport (codeText c ++ correctedLines c corrected errors) buffer after
 
+-- RULES, "Guarantees": what a report's call left that answers syndromes, whatever they are. Behind the account of the
+-- code each has its `c=` line, and that of an error's syndrome has the letters of the error's correction.
+pub record AnswersInReport (c : Code) (syndromes : List (List Bool)) (buffer : List ℕ) (after : After Written)
+    : Type 0 where
+  pub corrected : (E : Struck c) → IsCorrected c (E .error)
+  pub shown : (E : Struck c) → correctionLine c (syndrome (generators c) (E .error))
+      ≡ line "c=" (map letterByte (corrected E .letters))
+  pub writes : WritesReport (codeText c ++ flatMap (correctionLine c) syndromes) buffer after
+
 -- RULES, "Guarantees": what a report's call left that refutes a distance. The report has those four lines and no other,
 -- with two errors that refute the distance, from the earliest logical error.
 pub record RefutesInReport (q : SheetRead) (buffer : List ℕ) (after : After Written) : Type 0 where
@@ -187,15 +196,20 @@ pub record RefutesInReport (q : SheetRead) (buffer : List ℕ) (after : After Wr
   pub writes : WritesReport (refutationText q pair) buffer after
 
 -- RULES, "Guarantees": the third one, of what a report's call left of its buffer. Where the input is an admitted sheet
--- and the syndromes of errors that strike at most t qubits each, their corrections are shown. Where it is a sheet that
--- is admissible but for distance and that 14 refuses, with anything behind it, its distance is refuted.
+-- and the syndromes of errors that strike at most t qubits each, their corrections are shown; and so they are where
+-- other syndromes stand among them. Where it is a sheet that is admissible but for distance, with anything behind it,
+-- and two errors refute its distance, two such are shown. In every other case that sheet is admitted.
 pub record GuaranteedReport (input buffer : List ℕ) (after : After Written) : Type 0 where
   pub corrected : (s : List ℕ) → readSheet s .answer ≡ Admission.Admitted
       → (errors : List (Struck (readSheet s .code))) → input ≡ s ++ errorLines (readSheet s .code) errors
       → length input ≤ longestInput → CorrectsInReport (readSheet s .code) errors buffer after
-  pub refuted : (s rest : List ℕ) (q : SheetRead) (refusal : Refusal) → AdmissibleButForDistance s q
-      → RefusedForDistance s refusal → input ≡ s ++ rest → length input ≤ longestInput
-      → RefutesInReport q buffer after
+  pub answered : (s : List ℕ) → readSheet s .answer ≡ Admission.Admitted → (syndromes : List (List Bool))
+      → HaveBits (readSheet s .code .r) syndromes → input ≡ s ++ syndromesText syndromes
+      → length input ≤ longestInput → AnswersInReport (readSheet s .code) syndromes buffer after
+  pub refuted : (s rest : List ℕ) (q : SheetRead) → AdmissibleButForDistance s q → Refuted (q .code)
+      → input ≡ s ++ rest → length input ≤ longestInput → RefutesInReport q buffer after
+  pub otherwise : (s : List ℕ) (q : SheetRead) → AdmissibleButForDistance s q → (Refuted (q .code) → ⊥)
+      → readSheet s ≡ admitted (q .code)
 
 abbrev pub GuaranteeInReports : Type 0
 GuaranteeInReports = (input buffer : List ℕ) → GuaranteedReport input buffer (writeReport input buffer)

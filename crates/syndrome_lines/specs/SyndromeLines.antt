@@ -11,7 +11,8 @@ use Rattle.syndrome_reader.specs.declared.SyndromeRead.{SyndromeRead}
 use Rattle.syndrome_reader.specs.Mask.{readMask}
 use Rattle.syndrome_lines.specs.declared.SyndromeLines.{SyndromeLines}
 
--- RULES, "The report": a line behind w is `s=`, r characters 0 or 1 and a line feed. Its bits, as a mask.
+-- RULES, "The report": a line behind w is `s=`, r characters 0 or 1 and a line feed. Its bits, as a mask. No record has
+-- more than 32 generators, and with more no line is read.
 unfoldable pub maskLine : ℕ → List ℕ → SyndromeRead
 maskLine r s = cond (isLine (bytes "s=") r s) (readMask r (take r (drop 2 s))) SyndromeRead.Malformed
 
