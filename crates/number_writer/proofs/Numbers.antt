@@ -4,16 +4,15 @@ use mathlib.Core.Bool.{Bool, true, false}
 use mathlib.Core.List.{List, [], _∷_, _++_}
 use mathlib.Core.Path.{_≡_, refl, ap, sym, _∙_}
 use Prim.Native.Char.{code}
-use Prim.Native.Nat.{ℕ, zero, suc, _+_, _/_, _%_, _≤_, _<_}
+use Prim.Native.Nat.{ℕ, zero, suc, _+_, _/_, _%_, _≤_}
 use native.Mathlib.Decide.{decLt}
 use native.Mathlib.Omega.{arith}
 use lib.Dec.{ltb}
 use lib.ListN.{length, length-append}
-use Rattle.refusals.specs.declared.Refusal.{Refusal}
 use Rattle.refusals.specs.declared.Written.{Written}
-use Rattle.sheet.specs.Text.{lineFeed, digitsOf, decimal, laid, untouched}
+use Rattle.sheet.specs.Text.{lineFeed, digitsOf, decimal, laid}
 use Rattle.sheet.proofs.Lengths.{decimal-snoc, length-decimal-one}
-use Rattle.sheet.proofs.WrittenText.{written-short, written-whole}
+use Rattle.sheet.proofs.WrittenText.{written-whole}
 use Rattle.number_writer.specs.Lines.{numberText, writeNumber}
 
 -- ---- how many digits
@@ -54,11 +53,6 @@ module _ (key : List ℕ) (m : ℕ) where
       ∙ ap (λ (k : ℕ). k + 1) (length-append key (decimal m))
 
   module _ (buffer : List ℕ) where
-    pub number-too-short : length buffer < length (numberText key m)
-        → writeNumber key m buffer ≡ untouched (Written.Refused Refusal.ShortBuffer) buffer
-    unfolding writeNumber
-    number-too-short = written-short _ _ refl
-
     pub number-has-room : length (numberText key m) ≤ length buffer → writeNumber key m buffer
         ≡ record { answer = Written.Count (length (numberText key m)); buffer = laid (numberText key m) buffer }
     unfolding writeNumber

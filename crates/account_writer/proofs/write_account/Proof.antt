@@ -4,8 +4,7 @@ use Prim.Native.Nat.{_≤_}
 use Rattle.code_record.specs.declared.Code.{Code}
 use Rattle.code_record.specs.Record.{mostQubits}
 use Rattle.code_record.proofs.Limits.{limits}
-use Rattle.sheet.specs.Text.{untouched}
-use Rattle.sheet.proofs.WrittenText.{written-fault}
+use Rattle.sheet.proofs.WrittenText.{answers-fault}
 use Rattle.elimination.proofs.Passed.{fault-told, rows-told, passed-within}
 use Rattle.account_writer.specs.Account.{accountText, writeAccount, writeBy}
 use Rattle.account_writer.proofs.Account.{same-account}
@@ -40,14 +39,12 @@ module _ (c : tie.After-enum-told) where
 -- ---- the needs
 
 returns : tie.Need-returns
-unfolding writeAccount untouched
+unfolding writeAccount
 returns c =
     let checks = c .before .before .before in
     let a = checks .before .before .before .args in
-    let e = sym
-    (written-fault (accountText (a .code) (a .syndromes .now)) (a .out .now)
-    (sym (fault-told (a .code) (checks .eliminate .ensures) (c .before .answer .given .1)))) in
-    (ap (λ after. after .answer) e, ap (λ after. after .buffer) e)
+    answers-fault (accountText (a .code) (a .syndromes .now)) (a .out .now)
+    (sym (fault-told (a .code) (checks .eliminate .ensures) (c .before .answer .given .1)))
 
 write-by-requires : tie.Need-write-by-requires
 write-by-requires c κs = bounds (c .before)

@@ -1,6 +1,6 @@
 -- The call answers as `writeBy` says: 17, or the lines, as the test goes.
 use mathlib.Core.List.{List}
-use mathlib.Core.Path.{_≡_, refl, ap, sym, _∙_}
+use mathlib.Core.Path.{_≡_, refl, ap, _∙_}
 use Prim.Native.Nat.{ℕ, _≤_}
 use native.Mathlib.Omega.{arith}
 use borrow.Author.Tests.{leb-true, leb-false}
@@ -8,9 +8,8 @@ use lib.ListN.{length}
 use Rattle.code_record.specs.declared.Code.{Code}
 use Rattle.code_record.specs.Record.{mostQubits}
 use Rattle.code_record.proofs.Tests.{passed, failed}
-use Rattle.refusals.specs.declared.Written.{Written}
-use Rattle.sheet.specs.Text.{laid, untouched}
-use Rattle.sheet.proofs.WrittenText.{written-short, written-whole}
+use Rattle.sheet.specs.Text.{laid}
+use Rattle.sheet.proofs.WrittenText.{answers-short, answers-whole}
 use Rattle.letter_sums.specs.declared.LetterWords.{LetterWords}
 use Rattle.letter_words.specs.Words.{syndromeWords}
 use Rattle.letter_words.proofs.Sums.{all-qubits}
@@ -64,14 +63,12 @@ account-fits-requires : tie.Need-account-fits-requires
 account-fits-requires c κs = (start c .pre .1, (bounds c .0, bounds c .1))
 
 returns : tie.Need-returns
-unfolding writeBy untouched
+unfolding writeBy
 returns c =
     let at = c .before .before in
     let short = leb-false (length (text at)) (length (start at .args .out .now))
     (failed (c .before .account-fits .ensures) (c .if1 .taken)) in
-    let e = sym
-    (written-short (own at) (start at .args .out .now) refl (omega (arith, short, ap length (same-text at)))) in
-    (ap (λ after. after .answer) e, ap (λ after. after .buffer) e)
+    answers-short (own at) (start at .args .out .now) refl (omega (arith, short, ap length (same-text at)))
 
 account-lines-requires : tie.Need-account-lines-requires
 account-lines-requires c κs =
@@ -85,11 +82,9 @@ returns-2 c =
     let tested = call .before .before in
     let at = tested .before .before in
     let buffer = start at .args .out .now in
-    let e = sym (written-whole (own at) buffer refl (omega (arith, room tested, ap length (same-text at)))) in (
-      ap Written.Count (call .account-lines .ensures .0 ∙ ap length (same-text at)) ∙ ap (λ after. after .answer) e,
-      call .account-lines .ensures .1 ∙ ap (λ (t : List ℕ). laid t buffer) (same-text at)
-          ∙ ap (λ after. after .buffer) e,
-    )
+    answers-whole (own at) buffer refl (omega (arith, room tested, ap length (same-text at)))
+    (call .account-lines .ensures .0 ∙ ap length (same-text at))
+    (call .account-lines .ensures .1 ∙ ap (λ (t : List ℕ). laid t buffer) (same-text at))
 
 pub write-by-spec : {M : Type 1} → statement M
 write-by-spec =

@@ -4,8 +4,7 @@ use mathlib.Core.Path.{_≡_, ap, sym, _∙_}
 use Prim.Native.Nat.{ℕ}
 use borrow.Author.Needs.{needs}
 use Rattle.code_record.specs.declared.Code.{Code}
-use Rattle.sheet.specs.Text.{untouched}
-use Rattle.sheet.proofs.WrittenText.{written-fault}
+use Rattle.sheet.proofs.WrittenText.{answers-fault}
 use Rattle.rows_writer.specs.Rows.{writeRows}
 use Rattle.stabilizer.specs.Canonical.{canonicalText, writeCanonical}
 use Rattle.reduced_rows.specs.Rows.{rowsIn}
@@ -36,14 +35,12 @@ module _ (c : tie.After-enum-told) where
 -- ---- the needs
 
 returns : tie.Need-returns
-unfolding writeCanonical untouched
+unfolding writeCanonical
 returns c =
     let checks = c .before .before .before in
     let a = checks .before .before .args in
-    let e = sym
-    (written-fault (canonicalText (a .code)) (a .out .now)
-    (sym (fault-told (a .code) (checks .eliminate .ensures) (c .before .answer .given .1)))) in
-    (ap (λ after. after .answer) e, ap (λ after. after .buffer) e)
+    answers-fault (canonicalText (a .code)) (a .out .now)
+    (sym (fault-told (a .code) (checks .eliminate .ensures) (c .before .answer .given .1)))
 
 returns-2 : tie.Need-returns-2
 unfolding rowsIn

@@ -4,6 +4,8 @@ use mathlib.Core.Path.{_≡_, ap, sym, _∙_}
 use Prim.Native.Nat.{ℕ, _+_, _≤_}
 use native.Mathlib.Omega.{arith}
 use lib.ListN.{length}
+use Rattle.refusals.specs.declared.Refusal.{Refusal}
+use Rattle.refusal_writer.specs.RefusalLines.{writeRefusal}
 use Rattle.syndrome_lines.specs.declared.SyndromeLines.{SyndromeLines}
 use Rattle.syndrome_lines.proofs.Lines.{linesBefore, few-before}
 use Rattle.syndrome_lines.specs.SyndromeLines.{linesFault}
@@ -36,6 +38,14 @@ module _ (c : tie.After-check-syndromes) where
       let count = ap linesBefore (sym told ∙ c .check-syndromes .ensures) in
       omega (arith, few-before (start .args .code .r) s)
 
+-- The refusal that is written names the line behind w and as many more as were read.
+refused : (c : tie.After-write-refusal)
+    → let told = c .before .before .before in
+    let at = start (told .before .before) .args .at in
+    c .write-refusal .result
+    ≡ (writeRefusal (Refusal.Syndrome (at + 1 + told .before2 .given .0 .0)) (buffer (told .before .before))) .answer
+refused c = c .write-refusal .ensures .0
+
 -- ---- the needs
 
 add-t11 : tie.Need-add-t11
@@ -54,10 +64,10 @@ returns c =
 returns-2 : tie.Need-returns-2
 unfolding writeByFault linesFault
 returns-2 c =
-    let call = c .before .before .write-refusal in
+    let call = c .before .before in
     let told = c .before .before .before .before .before in
     let e = by-answer (told .before .before) (told .before2 .given .1) in
-    (call .ensures .0 ∙ ap (λ after. after .answer) e, call .ensures .1 ∙ ap (λ after. after .buffer) e)
+    (refused call ∙ ap (λ after. after .answer) e, call .write-refusal .ensures .1 ∙ ap (λ after. after .buffer) e)
 
 pub report-of-code-spec : {M : Type 1} → statement M
 report-of-code-spec =
