@@ -1,6 +1,4 @@
-//! The rules once more, written from their text alone: the test program `test_calls` is compared with this. Clarity
-//! goes before speed. A row is a sign and a list of letters, and only the record, as a caller hands it over, has
-//! masks and phases: they come from the letters one by one, so that a mistake about them is not made here as well.
+//! The independent implementation as a program.
 //!
 //! `independent cases` writes a selection of the cases, and `independent answers` reads cases and writes an answer
 //! for each: these two make crates/test_calls/stdin and crates/test_calls/stdout. `independent compare PROGRAM` runs
@@ -13,37 +11,8 @@
 //! `independent benchmark PROGRAM` is no test: it prints how long searches take in the program, beside the same made
 //! here.
 
-mod admission;
-mod answers;
-mod benchmark;
-mod cases;
-mod classical;
-mod codes;
-mod compare;
-mod damage;
-mod decoding;
-mod faults;
-mod group;
-mod guarantee;
-mod lists;
-mod logical_errors;
-mod parts;
-mod product;
-mod program;
-mod published;
-mod questions;
-mod random;
-mod record;
-mod report;
-mod reports;
-#[cfg(test)]
-mod sample_files;
-mod samples;
-mod sheet;
-mod strings;
-mod syndromes;
-
-use cases::Case;
+use independent::cases::Case;
+use independent::{answers, benchmark, cases, compare, parts, report, reports};
 use std::io::{self, Read, Write};
 use std::path::Path;
 use std::process::ExitCode;

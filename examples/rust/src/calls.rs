@@ -1,0 +1,85 @@
+//! The calls as `include/reinoften.h` declares them.
+
+pub const DONE: u32 = 0;
+
+pub const NONE: u32 = 255;
+
+#[repr(C)]
+#[derive(Clone, Copy)]
+pub struct Answer {
+    pub number: u32,
+    pub family: u32,
+    pub line: usize,
+    pub count: usize,
+}
+
+/// i^p D(a, b): the phase is read modulo 4, and qubit j is bit j - 1 of both masks.
+#[repr(C)]
+#[derive(Clone, Copy, PartialEq, Eq, Debug)]
+pub struct Pauli {
+    pub p: u32,
+    pub a: u32,
+    pub b: u32,
+}
+
+/// The record of a code. Unused rows are +I.
+#[repr(C)]
+#[derive(Clone, Copy, PartialEq, Eq, Debug)]
+pub struct Code {
+    pub n: usize,
+    pub r: usize,
+    pub d: usize,
+    pub g: [Pauli; 32],
+    pub x: [Pauli; 32],
+    pub z: [Pauli; 32],
+    pub w: Pauli,
+}
+
+/// Two errors on n qubits that refute a claimed distance.
+#[repr(C)]
+#[derive(Clone, Copy, PartialEq, Eq, Debug)]
+pub struct ErrorPair {
+    pub n: usize,
+    pub e: Pauli,
+    pub f: Pauli,
+}
+
+#[repr(C)]
+pub struct Reading {
+    pub answer: Answer,
+    pub errors: ErrorPair,
+    pub code: Code,
+}
+
+#[repr(C)]
+pub struct Correction {
+    pub answer: Answer,
+    pub correction: Pauli,
+}
+
+extern "C" {
+    pub fn reinoften_read_sheet(sheet: *const u8, sheet_length: usize) -> Reading;
+
+    pub fn reinoften_write_sheet(code: Code, out: *mut u8, out_length: usize) -> Answer;
+
+    pub fn reinoften_canonical(code: Code, out: *mut u8, out_length: usize) -> Answer;
+
+    pub fn reinoften_syndrome(code: Code, error: Pauli, out: *mut u8, out_length: usize) -> Answer;
+
+    pub fn reinoften_decode(
+        code: Code,
+        syndrome: *const u8,
+        syndrome_length: usize,
+        out: *mut u8,
+        out_length: usize,
+    ) -> Answer;
+
+    pub fn reinoften_correct(code: Code, syndrome: u32) -> Correction;
+
+    pub fn reinoften_report(
+        input: *const u8,
+        input_length: usize,
+        out: *mut u8,
+        out_length: usize,
+    ) -> Answer;
+}
