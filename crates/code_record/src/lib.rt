@@ -46,6 +46,7 @@ pub fn most_generators(n: usize) -> usize
 // The code that a sheet describes: n qubits, r generators, claimed distance d. The first r rows of g are the
 // generators, the first rows of x and of z the pairs of logical operators, and w is the claimed minimum-weight logical.
 // Unused rows are +I.
+#[repr(C)]
 pub struct Code {
     pub n: usize,
     pub r: usize,

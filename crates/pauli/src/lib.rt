@@ -7,6 +7,7 @@ ghost use Rattle.pauli.specs.Product.{identity, product, symplectic, com
 
 // i^p D(a, b): the phase p is read modulo 4, a is the X part and b the Z part.
 // Qubit j is bit j - 1 of both masks.
+#[repr(C)]
 pub struct Pauli {
     pub p: u32,
     pub a: u32,

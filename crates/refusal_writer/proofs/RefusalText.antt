@@ -6,20 +6,13 @@ use mathlib.Core.Path.{_≡_, refl, ap, ap₂, sym, _∙_}
 use Prim.Native.Nat.{ℕ, _+_, _*_}
 use native.Mathlib.Omega.{arith}
 use lib.ListN.{length, length-append}
-use denote.Enum.Declared.{tagOf}
-use types.Run.{OneOf, miss}
 use Rattle.letters.specs.Lists.{bytes}
 use Rattle.refusals.specs.declared.ErrorPair.{ErrorPair}
 use Rattle.refusals.specs.declared.Refusal.{Refusal}
-use Rattle.refusals.specs.declared.Refusal.the-variants.{TooLong, Form, QubitCount, DistanceRange, GeneratorCount}
-use Rattle.refusals.specs.declared.Refusal.the-variants.{GeneratorsAnticommute, MinusIdentity, DependentGenerator}
-use Rattle.refusals.specs.declared.Refusal.the-variants.{LogicalAnticommutes, LogicalPairing, ClaimedWeight}
-use Rattle.refusals.specs.declared.Refusal.the-variants.{ClaimedAnticommutes, ClaimedInGroup, DistanceRefuted}
-use Rattle.refusals.specs.declared.Refusal.the-variants.{RecordLimits, Syndrome, ShortBuffer}
+use Rattle.refusals.specs.declared.Refusal.the-variants.{DistanceRefuted}
 use Rattle.refusals.specs.declared.RefusalValues.{RefusalValues}
 use Rattle.refusals.specs.declared.Written.{Written}
 use Rattle.refusals.specs.Refusals.{values, answeredValues}
-use Rattle.refusals.proofs.Refusal.{the-type}
 use Rattle.sheet.specs.Text.{line, decimal, digitsOf, written}
 use Rattle.sheet.proofs.WrittenText.{Answers}
 use Rattle.number_writer.specs.Lines.{numberText}
@@ -77,29 +70,6 @@ module _ (at : ℕ) (pair : ErrorPair) where
       )
 
 -- ---- the other refusals
-
--- The places of the others among the refusals: these have no errors.
-abbrev others : List ℕ
-others = 0 ∷ 1 ∷ 2 ∷ 3 ∷ 4 ∷ 5 ∷ 6 ∷ 7 ∷ 8 ∷ 9 ∷ 10 ∷ 11 ∷ 12 ∷ 14 ∷ 15 ∷ 16 ∷ []
-
-pub no-errors : (refusal : Refusal) → OneOf others (tagOf the-type refusal) → values refusal .errors ≡ none
-no-errors TooLong _ = refl
-no-errors (Form at) _ = refl
-no-errors (QubitCount at) _ = refl
-no-errors (DistanceRange at) _ = refl
-no-errors (GeneratorCount at) _ = refl
-no-errors (GeneratorsAnticommute at family) _ = refl
-no-errors (MinusIdentity at family) _ = refl
-no-errors (DependentGenerator at family) _ = refl
-no-errors (LogicalAnticommutes at family) _ = refl
-no-errors (LogicalPairing at family) _ = refl
-no-errors (ClaimedWeight at) _ = refl
-no-errors (ClaimedAnticommutes at) _ = refl
-no-errors (ClaimedInGroup at) _ = refl
-no-errors (DistanceRefuted at pair) other = absurd (miss others 13 tt other)
-no-errors RecordLimits _ = refl
-no-errors (Syndrome at) _ = refl
-no-errors ShortBuffer _ = refl
 
 module _ (refusal : Refusal) (plain : values refusal .errors ≡ none) where
   plain-text : numbers (values refusal .number) (values refusal .line) ≡ refusalText refusal

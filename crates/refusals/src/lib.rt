@@ -26,6 +26,7 @@ impl Family {
 }
 
 // The two errors that refute a claimed distance, on n qubits.
+#[repr(C)]
 pub struct ErrorPair {
     pub n: usize,
     pub e: Pauli,

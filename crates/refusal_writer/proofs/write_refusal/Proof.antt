@@ -1,8 +1,9 @@
 -- 14 has a function of its own, and every other refusal is two numbers.
 use mathlib.Core.Path.{ap, sym, _∙_}
+use Rattle.refusals.proofs.Errors.{no-errors}
 use Rattle.numbers_writer.specs.Numbers.{writeNumbers}
 use Rattle.refusal_writer.specs.RefusalLines.{writeRefusal}
-use Rattle.refusal_writer.proofs.RefusalText.{no-errors, plain-answers}
+use Rattle.refusal_writer.proofs.RefusalText.{plain-answers}
 use borrow.Author.Needs.{needs}
 use Rattle.refusal_writer.proofs.write_refusal.Statement.{statement}
 use Rattle.refusal_writer.proofs.write_refusal.Tie as tie

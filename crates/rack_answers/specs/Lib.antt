@@ -1,0 +1,3 @@
+-- What the contracts of the answers as numbers cite, and what is stated of them.
+pub mod Answers
+pub mod Statements
