@@ -9,7 +9,7 @@ returns : tie.Need-returns
 returns c = c .done .ensures ∙ ap (decodedAnswer _) (sym (c .before .enum-told .given .1))
 
 returns-2 : tie.Need-returns-2
-returns-2 c = search needs
+returns-2 c = c .none .ensures ∙ ap (decodedAnswer _) (sym (c .before .enum-told2 .given .1))
 
 returns-3 : tie.Need-returns-3
 returns-3 c = c .refused .ensures ∙ ap (decodedAnswer _) (sym (c .before .before .answer .given .1))
