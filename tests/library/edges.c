@@ -9,41 +9,44 @@
 
 #include "reinoften.h"
 
-#define PLACE(type, member, offset) _Static_assert(offsetof(reinoften_##type, member) == (offset), #type "." #member)
+/* Where a member stands, and how many bytes it has. */
+#define PLACE(type, member, offset, size)                                                                             \
+    _Static_assert(offsetof(reinoften_##type, member) == (offset), #type "." #member);                                \
+    _Static_assert(sizeof(((reinoften_##type *)NULL)->member) == (size), #type "." #member)
 #define SIZE(type, size) _Static_assert(sizeof(reinoften_##type) == (size), #type)
 
-PLACE(answer, number, 0);
-PLACE(answer, family, 4);
-PLACE(answer, line, 8);
-PLACE(answer, count, 16);
+PLACE(answer, number, 0, 4);
+PLACE(answer, family, 4, 4);
+PLACE(answer, line, 8, 8);
+PLACE(answer, count, 16, 8);
 SIZE(answer, 24);
 
-PLACE(pauli, p, 0);
-PLACE(pauli, a, 4);
-PLACE(pauli, b, 8);
+PLACE(pauli, p, 0, 4);
+PLACE(pauli, a, 4, 4);
+PLACE(pauli, b, 8, 4);
 SIZE(pauli, 12);
 
-PLACE(code, n, 0);
-PLACE(code, r, 8);
-PLACE(code, d, 16);
-PLACE(code, g, 24);
-PLACE(code, x, 408);
-PLACE(code, z, 792);
-PLACE(code, w, 1176);
+PLACE(code, n, 0, 8);
+PLACE(code, r, 8, 8);
+PLACE(code, d, 16, 8);
+PLACE(code, g, 24, 384);
+PLACE(code, x, 408, 384);
+PLACE(code, z, 792, 384);
+PLACE(code, w, 1176, 12);
 SIZE(code, 1192);
 
-PLACE(error_pair, n, 0);
-PLACE(error_pair, e, 8);
-PLACE(error_pair, f, 20);
+PLACE(error_pair, n, 0, 8);
+PLACE(error_pair, e, 8, 12);
+PLACE(error_pair, f, 20, 12);
 SIZE(error_pair, 32);
 
-PLACE(reading, answer, 0);
-PLACE(reading, errors, 24);
-PLACE(reading, code, 56);
+PLACE(reading, answer, 0, 24);
+PLACE(reading, errors, 24, 32);
+PLACE(reading, code, 56, 1192);
 SIZE(reading, 1248);
 
-PLACE(correction, answer, 0);
-PLACE(correction, correction, 24);
+PLACE(correction, answer, 0, 24);
+PLACE(correction, correction, 24, 12);
 SIZE(correction, 40);
 
 static unsigned passed, failed;
