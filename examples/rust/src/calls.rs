@@ -1,8 +1,26 @@
-//! The calls as `include/reinoften.h` declares them.
+//! The calls as `include/reinoften.h` declares them, with its names. A test holds the two to each other.
 
 pub const DONE: u32 = 0;
 
 pub const NONE: u32 = 255;
+
+/// Bytes that always hold a syndrome.
+pub const SYNDROME_ROOM: usize = 23;
+
+/// Bytes that always hold the letters of a correction.
+pub const LETTERS_ROOM: usize = 24;
+
+/// Bytes that always hold the lines of canonical generators.
+pub const CANONICAL_ROOM: usize = 644;
+
+/// Bytes that always hold a sheet.
+pub const SHEET_ROOM: usize = 1352;
+
+/// Bytes that always hold a report.
+pub const REPORT_ROOM: usize = 32768;
+
+/// The rows of each family that a record has places for.
+pub const ROW_ROOM: usize = 32;
 
 #[repr(C)]
 #[derive(Clone, Copy)]
@@ -29,9 +47,9 @@ pub struct Code {
     pub n: usize,
     pub r: usize,
     pub d: usize,
-    pub g: [Pauli; 32],
-    pub x: [Pauli; 32],
-    pub z: [Pauli; 32],
+    pub g: [Pauli; ROW_ROOM],
+    pub x: [Pauli; ROW_ROOM],
+    pub z: [Pauli; ROW_ROOM],
     pub w: Pauli,
 }
 
