@@ -1,3 +1,4 @@
 pub mod Masks
 pub mod Corrected
+pub mod Numbers
 pub mod Examples

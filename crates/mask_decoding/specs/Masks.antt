@@ -33,3 +33,9 @@ maskAnswer none (some s) = MaskDecoded.Correction (ofLetters s)
 unfoldable pub decodeMask : Code → ℕ → MaskDecoded
 decodeMask c mask =
     maskAnswer (limitsFault c then maskFault (c .r) mask) (correction c (bitsOfMask (c .r) mask))
+
+-- The refusal that an answer carries, where it is one.
+unfoldable pub maskRefusal : MaskDecoded → Option Refusal
+maskRefusal (MaskDecoded.Correction P) = none
+maskRefusal MaskDecoded.None = none
+maskRefusal (MaskDecoded.Refused refusal) = some refusal

@@ -21,7 +21,7 @@ pub laid-nothing : (buffer : List ℕ) → buffer ≡ laid [] buffer
 unfolding laid
 laid-nothing buffer = refl
 
-length-laid : (text buffer : List ℕ) → length text ≤ length buffer → length (laid text buffer) ≡ length buffer
+pub length-laid : (text buffer : List ℕ) → length text ≤ length buffer → length (laid text buffer) ≡ length buffer
 unfolding laid
 length-laid text buffer room =
     omega (arith, length-append text (drop (length text) buffer), length-drop (length text) buffer)

@@ -1,0 +1,3 @@
+pub mod Lengths
+pub mod Leaves
+pub mod Guarantee

@@ -1,0 +1,3 @@
+-- What the contracts of the calls for C cite, and what is stated of them.
+pub mod Calls
+pub mod Statements
