@@ -5,7 +5,7 @@ pub const DONE: u32 = 0;
 pub const NONE: u32 = 255;
 
 #[repr(C)]
-#[derive(Clone, Copy)]
+#[derive(Clone, Copy, PartialEq, Eq, Debug)]
 pub struct Answer {
     pub number: u32,
     pub family: u32,
@@ -45,6 +45,7 @@ pub struct ErrorPair {
 }
 
 #[repr(C)]
+#[derive(Clone, Copy, PartialEq, Eq, Debug)]
 pub struct Reading {
     pub answer: Answer,
     pub errors: ErrorPair,
@@ -52,6 +53,7 @@ pub struct Reading {
 }
 
 #[repr(C)]
+#[derive(Clone, Copy, PartialEq, Eq, Debug)]
 pub struct Correction {
     pub answer: Answer,
     pub correction: Pauli,

@@ -1,7 +1,8 @@
 //! The calls of the library, safe to use from Rust. `include/reinoften.h` says what each answers; here an answer is a
 //! `Result`, and `none` is an `Option`.
 
-mod calls;
+#[doc(hidden)]
+pub mod calls;
 
 use calls::{Answer, DONE, NONE};
 pub use calls::{Code, ErrorPair, Pauli};
