@@ -88,7 +88,7 @@ impl Comparison {
             judge.tally.saw_number(call, reading.answer.number);
         }
         if let Ok(sheet) = &admitted {
-            judge.tally.saw_qubits(sheet.n);
+            judge.tally.saw_size((sheet.n, sheet.generators.len()));
         }
         if judge.is_wrapped() {
             let expected = expected::wrapped_reading(&admitted);

@@ -1,14 +1,15 @@
 //! How the calls of a run fared, and what occurred among them, so that nothing is left out unnoticed.
 
 use super::areas::Side;
+use independent::codes::sizes;
 use std::collections::{BTreeMap, BTreeSet};
 use std::fmt::{self, Display, Formatter};
 
 /// So many calls that fail are shown.
 const SHOWN: usize = 10;
 
-/// So many calls has a run at least.
-const LEAST: usize = 100_000;
+/// So many calls has a run at least: more than the inputs make that are the same in each run.
+const LEAST: usize = 500_000;
 
 #[derive(Clone, Copy, PartialEq, Eq, PartialOrd, Ord, Debug)]
 pub enum Call {
@@ -121,8 +122,8 @@ pub struct Tally {
     numbers: BTreeMap<(Call, u32), usize>,
     texts: BTreeMap<u32, usize>,
     ways: BTreeSet<(Call, Way)>,
-    /// of codes that were admitted
-    qubits: BTreeSet<usize>,
+    /// n and r of codes that were admitted
+    sizes: BTreeSet<(usize, usize)>,
     /// of corrections
     weights: BTreeSet<u32>,
 }
@@ -153,8 +154,8 @@ impl Tally {
         *self.texts.entry(number).or_default() += 1;
     }
 
-    pub fn saw_qubits(&mut self, n: usize) {
-        self.qubits.insert(n);
+    pub fn saw_size(&mut self, size: (usize, usize)) {
+        self.sizes.insert(size);
     }
 
     pub fn saw_weight(&mut self, weight: u32) {
@@ -187,8 +188,8 @@ impl Tally {
         let mut texts = numbers_of_texts();
         texts.retain(|number| !self.texts.contains_key(number));
         missing.extend(texts.iter().map(|number| format!("a report of {number}")));
-        let sizes = (2..=24).filter(|n| !self.qubits.contains(n));
-        missing.extend(sizes.map(|n| format!("a code of {n} qubits")));
+        let sizes = sizes().filter(|size| !self.sizes.contains(size));
+        missing.extend(sizes.map(|(n, r)| format!("a code of n={n} and r={r}")));
         let weights = (0..=3).filter(|weight| !self.weights.contains(weight));
         missing.extend(weights.map(|weight| format!("a correction of weight {weight}")));
         if self.passed + self.failed < LEAST {
@@ -246,7 +247,7 @@ mod tests {
         for number in numbers_of_texts() {
             tally.saw_text(number);
         }
-        (2..=24).for_each(|n| tally.saw_qubits(n));
+        sizes().for_each(|size| tally.saw_size(size));
         (0..=3).for_each(|weight| tally.saw_weight(weight));
         tally.passed = LEAST;
         tally
@@ -269,13 +270,13 @@ mod tests {
         assert_eq!(without(short), ["Report, Into(OneShort, Before)"]);
         let text = without(|tally| tally.texts.remove(&16).is_some());
         assert_eq!(text, ["a report of 16"]);
-        let qubits = without(|tally| tally.qubits.remove(&23));
-        assert_eq!(qubits, ["a code of 23 qubits"]);
+        let size = without(|tally| tally.sizes.remove(&(23, 22)));
+        assert_eq!(size, ["a code of n=23 and r=22"]);
         let weight = without(|tally| tally.weights.remove(&3));
         assert_eq!(weight, ["a correction of weight 3"]);
         let mut fewer = whole();
         fewer.passed -= 1;
-        assert_eq!(fewer.missing(), ["so many as 100000 calls"]);
+        assert_eq!(fewer.missing(), ["so many as 500000 calls"]);
     }
 
     #[test]
