@@ -5,6 +5,7 @@ use crate::cases::{Case, Kind};
 use crate::guarantee::errors_corrected;
 use crate::parts;
 use crate::program::{run, text};
+use crate::tally::told;
 use std::path::Path;
 use std::process::{ExitCode, Output};
 use std::slice;
@@ -25,8 +26,7 @@ pub fn compare(program: &Path) -> ExitCode {
         }
     }
     println!("{corrected} errors are corrected up to a member of the group");
-    println!("{} passed, {failed} failed", cases.len() - failed);
-    ExitCode::from(u8::from(failed > 0))
+    told(cases.len() - failed, failed)
 }
 
 /// How many of the cases differ, each run by itself; all of them where none does, since run together they do. Shows

@@ -32,3 +32,4 @@ pub mod samples;
 pub mod sheet;
 pub mod strings;
 pub mod syndromes;
+pub mod tally;

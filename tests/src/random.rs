@@ -1,5 +1,13 @@
 //! Numbers for the cases: the same each time for a seed.
 
+use std::time::{SystemTime, UNIX_EPOCH};
+
+/// A seed for a run that is given none.
+pub fn seed_of_clock() -> u64 {
+    let since = SystemTime::now().duration_since(UNIX_EPOCH);
+    since.expect("a clock").as_micros() as u64
+}
+
 /// Marsaglia's xorshift.
 pub struct Random(pub u64);
 

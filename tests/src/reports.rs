@@ -12,15 +12,17 @@ mod judgement;
 mod occurred;
 
 use crate::program::{run, text};
+use crate::random::seed_of_clock;
 use crate::report::report;
 use crate::sheet::Letter;
+use crate::tally::told;
 pub use codes::MOST_BYTES;
+pub use generated::ROUND;
 use judgement::fault;
 use occurred::Occurred;
 use std::path::Path;
 use std::process::{ExitCode, Output};
 use std::thread;
-use std::time::{SystemTime, UNIX_EPOCH};
 
 /// So many runs of the program at a time.
 const WORKERS: usize = 2;
@@ -72,13 +74,18 @@ pub fn fixed_inputs() -> impl Iterator<Item = Vec<u8>> {
 
 /// The bytes of inputs from seeds: in a round of them, one of so many.
 pub fn inputs_of_round(step: usize) -> impl Iterator<Item = Vec<u8>> {
-    let seeds = (0..generated::ROUND).step_by(step);
-    seeds.map(|seed| generated::input(seed as u64).bytes)
+    let seeds = (0..ROUND).step_by(step);
+    seeds.map(|seed| input_of_seed(seed as u64))
+}
+
+/// The bytes of the input from a seed.
+pub fn input_of_seed(seed: u64) -> Vec<u8> {
+    generated::input(seed).bytes
 }
 
 /// Runs the program on all inputs. Without a seed the clock gives one.
 pub fn compare(program: &Path, seed: Option<u64>) -> ExitCode {
-    let seed = seed.unwrap_or_else(now);
+    let seed = seed.unwrap_or_else(seed_of_clock);
     println!("seed {seed}");
     let inputs = fixed::inputs();
     let fixed = judged(program, inputs.len(), &|at| inputs[at].clone());
@@ -108,17 +115,6 @@ pub fn compare_one(program: &Path, seed: u64) -> ExitCode {
     let fault = fault(&input, &report(&input.bytes), &output);
     println!("{}", shown(&input, &output, fault.unwrap_or("passes")));
     told(usize::from(fault.is_none()), usize::from(fault.is_some()))
-}
-
-/// The last line.
-fn told(passed: usize, failed: usize) -> ExitCode {
-    println!("{passed} passed, {failed} failed");
-    ExitCode::from(u8::from(failed > 0))
-}
-
-fn now() -> u64 {
-    let since = SystemTime::now().duration_since(UNIX_EPOCH);
-    since.expect("a clock").as_micros() as u64
 }
 
 /// How inputs fared.

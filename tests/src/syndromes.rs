@@ -1,12 +1,28 @@
-//! Characters of syndromes, and characters that are none.
+//! Light errors, characters of syndromes, and characters that are none.
 
+use crate::codes::string_of_weight;
 use crate::decoding::Decoder;
 use crate::random::Random;
 use crate::record::{Pauli, Record};
-use crate::sheet::Row;
+use crate::sheet::{Letter, Row};
 
 /// Bytes that are neither 0 nor 1.
 const OTHERS: &[u8] = b"2/:Ol \0\r\xb1";
+
+/// An error of weight t + 1 at most, or 3 at most where t is less than that.
+pub fn light_error(random: &mut Random, record: &Record) -> Row {
+    let n = record.n.max(1);
+    let t = record.d.saturating_sub(1) / 2;
+    let v = random.index(t.max(2) + 2).min(n);
+    let letters = string_of_weight(random, n, v);
+    signed(random, letters)
+}
+
+/// The letters with any sign.
+pub fn signed(random: &mut Random, letters: Vec<Letter>) -> Row {
+    let minus = random.below(2) == 0;
+    Row { minus, letters }
+}
 
 /// The characters of a row's syndrome; none where the record is outside its limits.
 pub fn syndrome(record: &Record, row: &Row) -> Vec<u8> {

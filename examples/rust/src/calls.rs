@@ -23,7 +23,7 @@ pub const REPORT_ROOM: usize = 32768;
 pub const ROW_ROOM: usize = 32;
 
 #[repr(C)]
-#[derive(Clone, Copy)]
+#[derive(Clone, Copy, PartialEq, Eq, Debug)]
 pub struct Answer {
     pub number: u32,
     pub family: u32,
@@ -63,6 +63,7 @@ pub struct ErrorPair {
 }
 
 #[repr(C)]
+#[derive(Clone, Copy, PartialEq, Eq, Debug)]
 pub struct Reading {
     pub answer: Answer,
     pub errors: ErrorPair,
@@ -70,6 +71,7 @@ pub struct Reading {
 }
 
 #[repr(C)]
+#[derive(Clone, Copy, PartialEq, Eq, Debug)]
 pub struct Correction {
     pub answer: Answer,
     pub correction: Pauli,

@@ -5,7 +5,8 @@
 //! one too. A slice that is written overlaps no other, since it is borrowed alone. Records and Paulis are numbers, so
 //! any of their values may be handed over, and any that come back are good.
 
-mod calls;
+#[doc(hidden)]
+pub mod calls;
 
 use calls::{Answer, DONE, NONE};
 pub use calls::{Code, ErrorPair, Pauli};

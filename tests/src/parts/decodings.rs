@@ -9,9 +9,9 @@ use crate::questions::{of_characters, of_pauli, text};
 use crate::random::Random;
 use crate::record::{Record, LAST_CHANGE};
 use crate::samples::{self, any_row, A, K, L, NINE};
-use crate::sheet::{self, Letter, Row, Sheet};
+use crate::sheet::{self, Letter, Sheet};
 use crate::strings::strings_of_weight;
-use crate::syndromes::{any_bits, every_bits, off_form, syndrome};
+use crate::syndromes::{any_bits, every_bits, light_error, off_form, signed, syndrome};
 
 /// So many generators at most where every syndrome is asked about.
 const FEW_GENERATORS: usize = 10;
@@ -142,20 +142,6 @@ fn in_a_line(random: &mut Random, record: &Record) -> Questions {
         questions.extend(rows.map(|row| of_pauli('e', random.index(10), &row)));
     }
     questions
-}
-
-/// Of weight t + 1 at most, or 3 at most where t is less than that.
-fn light_error(random: &mut Random, record: &Record) -> Row {
-    let n = record.n.max(1);
-    let t = record.d.saturating_sub(1) / 2;
-    let v = random.index(t.max(2) + 2).min(n);
-    let letters = string_of_weight(random, n, v);
-    signed(random, letters)
-}
-
-fn signed(random: &mut Random, letters: Vec<Letter>) -> Row {
-    let minus = random.below(2) == 0;
-    Row { minus, letters }
 }
 
 /// Records with each change; the one beside a refused reading is among them.
