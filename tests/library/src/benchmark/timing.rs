@@ -4,13 +4,6 @@ use std::fmt::Debug;
 use std::hint::black_box;
 use std::time::{Duration, Instant};
 
-/// Each time is the median of so many.
-const ROUNDS: usize = 21;
-
-/// Calls are repeated in a round for so long: enough for the clock, and short beside the time that other programs take
-/// when they are let in.
-const ROUND: Duration = Duration::from_micros(500);
-
 /// Seconds, of plain Rust with the scan, of plain Rust with the table, and of the library.
 pub type Times = [f64; 3];
 
@@ -18,30 +11,43 @@ pub type Times = [f64; 3];
 pub const TABLE: usize = 1;
 pub const LIBRARY: usize = 2;
 
+/// Each time is the median of so many rounds; of fewer, but of no less than the second number, where the rounds take
+/// longer than that together.
+const ROUNDS: usize = 101;
+const FEW_ROUNDS: usize = 9;
+const LONG: Duration = Duration::from_millis(1500);
+
+/// In a round a call is repeated for so long. That is enough for the clock, and little beside the time for which other
+/// programs are let in, so that they are met in few rounds.
+const ROUND: Duration = Duration::from_micros(100);
+
 /// The seconds that each of the calls takes, which take turns. Their answers are equal.
 pub fn timed<T: PartialEq + Debug, const N: usize>(calls: [&dyn Fn() -> T; N]) -> [f64; N] {
     let first = calls[0]();
     for call in &calls[1..] {
         assert_eq!(call(), first);
     }
-    let repetitions = repetitions(calls[0]);
-    let mut times = [[0.0; ROUNDS]; N];
+    let repetitions = calls.map(repetitions);
+    let mut times = [(); N].map(|()| Vec::new());
+    let start = Instant::now();
     for round in 0..ROUNDS {
-        for (times, call) in times.iter_mut().zip(calls) {
-            times[round] = seconds(call, repetitions);
+        if round >= FEW_ROUNDS && start.elapsed() > LONG {
+            break;
+        }
+        for (at, call) in calls.iter().enumerate() {
+            times[at].push(seconds(call, repetitions[at]));
         }
     }
     times.map(median)
 }
 
+/// So many that they take as long as a round.
 fn repetitions<T>(call: &dyn Fn() -> T) -> u32 {
-    let mut repetitions = 1;
-    while repetitions < 1 << 24
-        && seconds(call, repetitions) * f64::from(repetitions) < ROUND.as_secs_f64()
-    {
-        repetitions *= 2;
-    }
-    repetitions
+    let lasts = |repetitions| seconds(call, repetitions) * f64::from(repetitions);
+    let powers = (0..).map(|power| 1 << power);
+    { powers }
+        .find(|&repetitions| lasts(repetitions) > ROUND.as_secs_f64())
+        .expect("a call takes time")
 }
 
 /// Of one call.
@@ -53,7 +59,7 @@ fn seconds<T>(call: &dyn Fn() -> T, repetitions: u32) -> f64 {
     start.elapsed().as_secs_f64() / f64::from(repetitions)
 }
 
-fn median(mut times: [f64; ROUNDS]) -> f64 {
+fn median(mut times: Vec<f64>) -> f64 {
     times.sort_by(f64::total_cmp);
-    times[ROUNDS / 2]
+    times[times.len() / 2]
 }
