@@ -4,7 +4,7 @@ use super::codes::{cyclic_13, cyclic_17, five, with_qubits, Known};
 use super::timing::{Times, LIBRARY};
 use super::{markdown, questions};
 
-const QUBITS: [usize; 9] = [5, 7, 9, 11, 13, 15, 17, 20, 24];
+const QUBITS: [usize; 10] = [5, 7, 9, 11, 13, 16, 17, 20, 22, 24];
 
 /// The times of the codes that correct t errors.
 pub struct Series {

@@ -76,7 +76,8 @@ impl Panel<'_> {
     /// The title, the marks of both axes, and the axis of qubits named.
     fn frame(&self) -> Vec<String> {
         let (left, middle) = (self.left, self.left + ACROSS / 2.0);
-        let mut parts = vec![text(middle, TOP - 14.0, "middle", self.column.0)];
+        let title = format!("{}: time of a call", self.column.0);
+        let mut parts = vec![text(middle, TOP - 14.0, "middle", &title)];
         for power in self.low..=self.high {
             let y = self.y(f64::from(power));
             parts.push(line(left, y, left + ACROSS, y, "#dddddd"));
@@ -151,4 +152,67 @@ fn path(places: &[(f64, f64)], colour: &str, dashes: &str) -> String {
         drawn += &format!("<circle cx=\"{x:.1}\" cy=\"{y:.1}\" r=\"2.5\" fill=\"{colour}\"/>");
     }
     drawn
+}
+
+#[cfg(test)]
+mod tests {
+    use super::super::growth::Point;
+    use super::*;
+
+    /// The numbers in an attribute of each part with this name.
+    fn numbers(svg: &str, part: &str, attribute: &str) -> Vec<Vec<f64>> {
+        let (begin, key) = (format!("<{part} "), format!("{attribute}=\""));
+        let parts = svg.split(&begin).skip(1);
+        let values = parts.map(|rest| rest.split_once(&key).unwrap().1);
+        let values = values.map(|rest| rest.split_once('"').unwrap().0);
+        let numbers = |value: &str| {
+            value
+                .split([',', ' '])
+                .map(|n| n.parse().unwrap())
+                .collect()
+        };
+        values.map(numbers).collect()
+    }
+
+    #[test]
+    fn each_time_has_its_place_in_a_panel() {
+        let series = [1, 2, 3].map(|t| {
+            let point = |n| {
+                let times = [0.0, 1e-9, 1e-7].map(|unit: f64| unit * 10_f64.powi(t as i32));
+                let (decode, admission) = (times, times);
+                Point {
+                    n,
+                    decode,
+                    admission,
+                }
+            };
+            let points = [5, 24].map(point).into();
+            Series { t, points }
+        });
+        let svg = drawn(&series);
+        let lines = numbers(&svg, "polyline", "points");
+        let of_panels = COLUMNS.len() * series.len() * LINES.len();
+        assert_eq!(lines.len(), of_panels + series.len() + LINES.len());
+        // from 10 ns to 100 µs there are four powers of ten, and the library's first time is at the third
+        let (left, step) = (LEFT + ACROSS / 21.0, ACROSS * 19.0 / 21.0);
+        let y = BOTTOM - (BOTTOM - TOP) / 2.0;
+        let expected = [left, y, left + step, y];
+        let near = |(one, other): (&f64, &f64)| (one - other).abs() < 0.06;
+        assert!(lines[0].iter().zip(&expected).all(near), "{:?}", lines[0]);
+        for (at, line) in lines[..of_panels].iter().enumerate() {
+            let panel = LEFT + STEP * (at / 6) as f64;
+            for place in line.chunks(2) {
+                assert!((panel..=panel + ACROSS).contains(&place[0]), "{place:?}");
+                assert!((TOP..=BOTTOM).contains(&place[1]), "{place:?}");
+            }
+        }
+        let marks = numbers(&svg, "text", "x");
+        assert!(marks.iter().all(|x| (30.0..=WIDTH).contains(&x[0])));
+    }
+
+    #[test]
+    fn powers_of_ten_have_their_units() {
+        let names = [-8, -7, -6, -4, -3, 0].map(power_of_ten);
+        assert_eq!(names, ["10 ns", "100 ns", "1 µs", "100 µs", "1 ms", "1 s"]);
+    }
 }

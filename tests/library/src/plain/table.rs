@@ -1,73 +1,77 @@
 //! The walk with a table in front of the scan of the last letter, as the library has it.
 
-use super::walk::{placed, single, Masks, Walk};
+use super::walk::{of_weight, placed, single, Masks, Walk};
 use super::words::Words;
 
 const SLOTS: usize = 4096;
 
-/// For each slot the first place with a word of that slot. Most words are told by it not to occur before a place.
-pub struct Table {
-    words: Words,
-    most: usize,
-    places: [u8; SLOTS],
-}
+/// For each slot the first place that has a word of it. By this most words are known not to stand before a place.
+type Places = [u8; SLOTS];
 
-/// Of the table of a slot with no word.
+/// What stands in a slot that no word has.
 const NOWHERE: u8 = u8::MAX;
 
 fn slot(word: u32) -> usize {
     (word ^ word >> 12) as usize % SLOTS
 }
 
+fn places(words: &[u32]) -> Places {
+    let mut places = [NOWHERE; SLOTS];
+    for (place, &word) in words.iter().enumerate().rev() {
+        places[slot(word)] = place as u8;
+    }
+    places
+}
+
+/// The table is made where a search gets to strings of two letters.
+pub struct Table {
+    words: Words,
+    most: usize,
+}
+
 impl Walk for Table {
     fn of(words: Words, most: usize) -> Table {
-        let mut places = [NOWHERE; SLOTS];
-        // strings of one letter are scanned
-        if most > 1 {
-            for place in (0..3 * words.qubits).rev() {
-                places[slot(words.first[place])] = place as u8;
-            }
-        }
-        Table {
-            words,
-            most,
-            places,
-        }
+        Table { words, most }
     }
 
     fn earliest(&self, want: u32, shun: u64) -> Option<Masks> {
-        if want == 0 && shun != 0 {
-            return Some((0, 0));
+        let (first, second) = self.words.on(self.words.qubits);
+        let mut light = 0..=self.most.min(1);
+        let found = light.find_map(|weight| of_weight(first, second, weight, want, shun));
+        if found.is_some() || self.most < 2 {
+            return found;
         }
-        let mut weights = 1..=self.most;
-        weights.find_map(|weight| self.of_weight(self.words.qubits, weight, want, shun))
+        let places = &places(first);
+        let mut heavy = 2..=self.most;
+        heavy.find_map(|weight| self.walk(places, self.words.qubits, weight, want, shun))
     }
 }
 
 impl Table {
     /// The earliest string of a weight on the last qubits.
-    fn of_weight(&self, qubits: usize, weight: usize, want: u32, shun: u64) -> Option<Masks> {
-        let end = 3 * qubits;
-        let (first, second) = (&self.words.first[..end], &self.words.second[..end]);
+    fn walk(
+        &self,
+        places: &Places,
+        qubits: usize,
+        weight: usize,
+        want: u32,
+        shun: u64,
+    ) -> Option<Masks> {
+        let (first, second) = self.words.on(qubits);
         if weight == 1 {
             return single(first, second, want, shun);
         }
         for right in weight - 1..qubits {
             for place in 3 * right..3 * right + 3 {
                 let want = want ^ first[place];
-                if weight > 2 || self.may_occur(right, want) {
+                if weight > 2 || usize::from(places[slot(want)]) < 3 * right {
                     let shun = shun ^ second[place];
-                    if let Some(rest) = self.of_weight(right, weight - 1, want, shun) {
+                    if let Some(rest) = self.walk(places, right, weight - 1, want, shun) {
                         return Some(placed(qubits, place, rest));
                     }
                 }
             }
         }
         None
-    }
-
-    /// Whether the word may be one of the last qubits'.
-    fn may_occur(&self, qubits: usize, want: u32) -> bool {
-        usize::from(self.places[slot(want)]) < 3 * qubits
     }
 }

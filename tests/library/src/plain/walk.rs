@@ -26,14 +26,19 @@ impl Walk for Scan {
     }
 
     fn earliest(&self, want: u32, shun: u64) -> Option<Masks> {
-        let end = 3 * self.words.qubits;
-        let (first, second) = (&self.words.first[..end], &self.words.second[..end]);
+        let (first, second) = self.words.on(self.words.qubits);
         (0..=self.most).find_map(|weight| of_weight(first, second, weight, want, shun))
     }
 }
 
 /// The earliest string of a weight on the last qubits, those that have words.
-fn of_weight(first: &[u32], second: &[u64], weight: usize, want: u32, shun: u64) -> Option<Masks> {
+pub fn of_weight(
+    first: &[u32],
+    second: &[u64],
+    weight: usize,
+    want: u32,
+    shun: u64,
+) -> Option<Masks> {
     let qubits = first.len() / 3;
     match weight {
         0 => (want == 0 && shun != 0).then_some((0, 0)),

@@ -11,6 +11,11 @@ pub struct Words {
 }
 
 impl Words {
+    /// Those of the last qubits.
+    pub fn on(&self, qubits: usize) -> (&[u32], &[u64]) {
+        (&self.first[..3 * qubits], &self.second[..3 * qubits])
+    }
+
     /// First words: the syndromes. The second words are 0.
     pub fn of_syndromes(code: &Code) -> Words {
         let generators = &code.g[..code.r];
