@@ -38,8 +38,8 @@ fn table(title: &str, names: [&str; 2], rows: impl Iterator<Item = ([String; 2],
         "Rust, scan",
         "Rust, table",
         "Reinoften",
-        "to scan",
-        "to table",
+        "Ratio to scan",
+        "Ratio to table",
     ];
     markdown::head(&names, &times);
     for (names, [scan, table, library]) in rows {

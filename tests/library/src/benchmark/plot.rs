@@ -178,7 +178,7 @@ mod tests {
     fn each_time_has_its_place_in_a_panel() {
         let series = [1, 2, 3].map(|t| {
             let point = |n| {
-                let times = [0.0, 1e-9, 1e-7].map(|unit: f64| unit * 10_f64.powi(t as i32));
+                let times = [0.0, 2e-9, 2e-7].map(|unit: f64| unit * 10_f64.powi(t as i32));
                 let (decode, admission) = (times, times);
                 Point {
                     n,
@@ -193,9 +193,9 @@ mod tests {
         let lines = numbers(&svg, "polyline", "points");
         let of_panels = COLUMNS.len() * series.len() * LINES.len();
         assert_eq!(lines.len(), of_panels + series.len() + LINES.len());
-        // from 10 ns to 100 µs there are four powers of ten, and the library's first time is at the third
+        // the axis goes from 10 ns to 1 ms, and the first line is at 2 µs
         let (left, step) = (LEFT + ACROSS / 21.0, ACROSS * 19.0 / 21.0);
-        let y = BOTTOM - (BOTTOM - TOP) / 2.0;
+        let y = BOTTOM - (BOTTOM - TOP) * 200_f64.log10() / 5.0;
         let expected = [left, y, left + step, y];
         let near = |(one, other): (&f64, &f64)| (one - other).abs() < 0.06;
         assert!(lines[0].iter().zip(&expected).all(near), "{:?}", lines[0]);

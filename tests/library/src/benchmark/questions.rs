@@ -68,3 +68,14 @@ fn timed_texts<T: PartialEq + Debug, const ROOM: usize, const N: usize>(
     let calls = calls.map(|call| || call(&mut *out.borrow_mut()));
     timed(calls.each_ref().map(|call| call as _))
 }
+
+#[cfg(test)]
+mod tests {
+    use super::*;
+
+    #[test]
+    #[should_panic]
+    fn calls_that_write_otherwise_are_not_timed() {
+        timed_texts::<_, 2, 2>([&|out| out[0] = 1, &|out| out[1] = 1]);
+    }
+}

@@ -63,3 +63,22 @@ fn median(mut times: Vec<f64>) -> f64 {
     times.sort_by(f64::total_cmp);
     times[times.len() / 2]
 }
+
+#[cfg(test)]
+mod tests {
+    use super::*;
+
+    #[test]
+    #[should_panic]
+    fn calls_that_answer_otherwise_are_not_timed() {
+        timed([&|| 1, &|| 1, &|| 2]);
+    }
+
+    #[test]
+    fn the_time_is_that_of_one_call() {
+        let waits = |micros| move || std::thread::sleep(Duration::from_micros(micros));
+        let [short, long] = timed([&waits(10) as _, &waits(2000) as _]);
+        assert!(short < long && long > 0.002, "{short} {long}");
+        assert_eq!(median(vec![3.0, 1.0, 9.0, 2.0, 2.5]), 2.5);
+    }
+}
