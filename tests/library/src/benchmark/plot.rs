@@ -21,8 +21,10 @@ const MARKS: [usize; 5] = [5, 10, 15, 20, 24];
 const COLOURS: [&str; 3] = ["#1f6fb4", "#c2571a", "#2e8b57"];
 
 /// Of which times a line is, and how it is drawn.
-const LINES: [(&str, usize, &str); 2] =
-    [("Reinoften", LIBRARY, "none"), ("plain Rust", TABLE, "5 4")];
+const LINES: [(&str, usize, &str); 2] = [
+    ("Reinoften", LIBRARY, "none"),
+    ("Rust, table", TABLE, "5 4"),
+];
 
 /// A text of SVG.
 pub fn drawn(series: &[Series]) -> String {
