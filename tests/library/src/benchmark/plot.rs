@@ -29,7 +29,10 @@ const LINES: [(&str, usize, &str); 2] = [
 /// A text of SVG.
 pub fn drawn(series: &[Series]) -> String {
     let mut parts = vec![
-        format!("<svg xmlns=\"http://www.w3.org/2000/svg\" viewBox=\"0 0 {WIDTH} {HEIGHT}\" width=\"{WIDTH}\" height=\"{HEIGHT}\" font-family=\"sans-serif\" font-size=\"12\">"),
+        format!(
+            "<svg xmlns=\"http://www.w3.org/2000/svg\" viewBox=\"0 0 {WIDTH} {HEIGHT}\" \
+             width=\"{WIDTH}\" height=\"{HEIGHT}\" font-family=\"sans-serif\" font-size=\"12\">"
+        ),
         format!("<rect width=\"{WIDTH}\" height=\"{HEIGHT}\" fill=\"white\"/>"),
     ];
     for (at, column) in COLUMNS.iter().enumerate() {
@@ -149,7 +152,10 @@ fn line(x1: f64, y1: f64, x2: f64, y2: f64, colour: &str) -> String {
 fn path(places: &[(f64, f64)], colour: &str, dashes: &str) -> String {
     let points = places.iter().map(|(x, y)| format!("{x:.1},{y:.1}"));
     let points = points.collect::<Vec<_>>().join(" ");
-    let mut drawn = format!("<polyline points=\"{points}\" fill=\"none\" stroke=\"{colour}\" stroke-width=\"2\" stroke-dasharray=\"{dashes}\"/>");
+    let mut drawn = format!(
+        "<polyline points=\"{points}\" fill=\"none\" stroke=\"{colour}\" stroke-width=\"2\" \
+         stroke-dasharray=\"{dashes}\"/>"
+    );
     for (x, y) in places {
         drawn += &format!("<circle cx=\"{x:.1}\" cy=\"{y:.1}\" r=\"2.5\" fill=\"{colour}\"/>");
     }

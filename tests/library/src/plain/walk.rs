@@ -54,8 +54,8 @@ pub fn of_weight(
     }
 }
 
-/// Whether the word is among the words. A scan that always goes to its end is compiled to compare several words at once,
-/// and is faster here than `contains`.
+/// Whether the word is among the words. A scan that always goes to its end is compiled to compare several words at
+/// once, and is faster here than `contains`.
 #[inline(always)]
 fn occurs(words: &[u32], want: u32) -> bool {
     words
