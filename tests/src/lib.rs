@@ -5,7 +5,6 @@
 
 pub mod admission;
 pub mod answers;
-pub mod benchmark;
 pub mod cases;
 pub mod classical;
 pub mod codes;

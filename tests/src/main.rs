@@ -7,12 +7,9 @@
 //! `independent report` does what the program `report` does. `independent reports PROGRAM` runs that program on many
 //! inputs and compares its reports. Most inputs are made from a seed, which is printed first: a number behind PROGRAM
 //! takes the place of the clock's, and `--input` with the seed of one input runs that one and shows it.
-//!
-//! `independent benchmark PROGRAM` is no test: it prints how long searches take in the program, beside the same made
-//! here.
 
 use independent::cases::Case;
-use independent::{answers, benchmark, cases, compare, parts, report, reports};
+use independent::{answers, cases, compare, parts, report, reports};
 use std::io::{self, Read, Write};
 use std::path::Path;
 use std::process::ExitCode;
@@ -26,8 +23,6 @@ fn main() -> ExitCode {
         ["report"] => write(report::report(&input()).into_iter()),
         ["compare", program] => return compare::compare(Path::new(program)),
         ["reports", program, ..] => return compare_reports(Path::new(program), &arguments[2..]),
-        ["benchmark"] => benchmark::benchmark(None),
-        ["benchmark", program] => benchmark::benchmark(Some(Path::new(program))),
         _ => return usage(),
     }
     ExitCode::SUCCESS
@@ -36,8 +31,7 @@ fn main() -> ExitCode {
 fn usage() -> ExitCode {
     eprintln!(
         "cases; or answers, with cases on standard input; or compare and a program; or report, with a sheet on \
-         standard input; or reports and a program, with a seed or --input and the seed of one input; or benchmark and \
-         a program"
+         standard input; or reports and a program, with a seed or --input and the seed of one input"
     );
     ExitCode::FAILURE
 }

@@ -1,0 +1,48 @@
+//! The words of letters, by which the walk goes through strings.
+
+use super::rows::ReducedRows;
+use reinoften::Code;
+
+/// The words of X, Y and Z at the qubit with m qubits to its right stand at the places 3m, 3m + 1 and 3m + 2.
+pub struct Words {
+    pub qubits: usize,
+    pub first: [u32; 72],
+    pub second: [u64; 72],
+}
+
+impl Words {
+    /// Those of the last qubits.
+    pub fn on(&self, qubits: usize) -> (&[u32], &[u64]) {
+        (&self.first[..3 * qubits], &self.second[..3 * qubits])
+    }
+
+    /// First words: the syndromes. The second words are 0.
+    pub fn of_syndromes(code: &Code) -> Words {
+        let generators = &code.g[..code.r];
+        let mut first = [0; 72];
+        for (letters, qubit) in first.chunks_exact_mut(3).zip((0..code.n).rev()) {
+            let (mut x, mut z) = (0, 0);
+            for row in generators.iter().rev() {
+                x = (2 * x) | (row.b >> qubit & 1);
+                z = (2 * z) | (row.a >> qubit & 1);
+            }
+            letters.copy_from_slice(&[x, x ^ z, z]);
+        }
+        Words {
+            qubits: code.n,
+            first,
+            second: [0; 72],
+        }
+    }
+
+    /// The same, with what the reduced rows leave of each letter for second words.
+    pub fn of_logical_errors(code: &Code, rows: &ReducedRows) -> Words {
+        let mut words = Words::of_syndromes(code);
+        let left = rows.left_of_columns();
+        for (letters, qubit) in { words.second.chunks_exact_mut(3) }.zip((0..code.n).rev()) {
+            let (x, z) = (left[qubit], left[32 + qubit]);
+            letters.copy_from_slice(&[x, x ^ z, z]);
+        }
+        words
+    }
+}
