@@ -3,8 +3,10 @@
 use mathlib.Core.Logic.{⊎-elim}
 use mathlib.Core.Path.{_≡_, sym, subst, _∙_}
 use mathlib.Core.Option.{none}
-use Prim.Native.Nat.{ℕ, _<_, _≤_, _-_}
+use Prim.Native.Nat.{ℕ, _<_, _≤_, _+_, _-_, _*_}
 use native.Mathlib.Omega.{arith}
+use lib.Bits.{bitXor}
+use lib.ListN.{getD}
 use borrow.Author.Needs.{needs}
 use borrow.Author.Count.{below-more}
 use borrow.Fn.Kinds.{In}
@@ -15,6 +17,7 @@ use Rattle.letter_sums.proofs.Masks.{found-some, found-nothing}
 use Rattle.letter_sums.proofs.Masks.{placed-found, nothing-found}
 use Rattle.letter_sums.proofs.Words.{NoneBelow, behind, none-short}
 use Rattle.letter_sums.proofs.Words.{none-to-the-right, found-here, found-nowhere, masks-lt}
+use Rattle.word_filter.specs.Filter.{mayEnd}
 use Rattle.word_filter.proofs.Tables.{none-ended}
 use Rattle.search.proofs.completion.Reads as completion
 use Rattle.search.proofs.completion.Kinds as completion-kinds
@@ -120,14 +123,18 @@ pub +completion-spec : {M : Type 1} → statement M
     let a = start .args in
     let Nothing =
     behind (a .first .now) (a .second .now) (at .loop .right) (a .weight - 1) (a .want) (a .shun) (turn .loop2 .letter)
-    ≡ none in (
+    ≡ none in
+    let place = 3 * at .loop .right + turn .loop2 .letter in
+    let asked : c .before .may-end .result
+    ≡ mayEnd (a .places .now) (a .weight - 1) place (bitXor (a .want) (getD (a .first .now) place 0)) =
+    c .before .may-end .ensures in (
       omega arith,
       below-more _ _ (turn .loop2 .inv .1)
           (⊎-elim {C = Nothing}
           (λ tried. found-nothing _ (sym (tried .4 .given .1) ∙ tried .2 .ensures))
           (λ passed.
-          none-ended (a .places .now) (a .first .now) (a .second .now) (at .loop .right) (a .weight - 1) _ _ _
-          (start .pre .1 .1 .1 .1) (omega arith) (omega arith) (sym (c .before .may-end .ensures) ∙ passed .left))
+          none-ended (a .places .now) (a .first .now) (a .second .now) (at .loop .right) (a .weight - 1) place _ _
+          (start .pre .1 .1 .1 .1) (omega arith) (omega arith) (sym asked ∙ passed .left))
           (c .if2 .came)),
     ))
     (λ c. search needs)  -- add-right

@@ -3,9 +3,9 @@ use mathlib.Core.List.{List}
 use mathlib.Core.Path.{_≡_, ap, ap₂, _∙_}
 use Prim.Native.Nat.{ℕ, _-_, _<_, _≤_}
 use native.Mathlib.Omega.{arith}
-use lib.ListN.{length, drop, set}
+use lib.ListN.{length, drop, getD, set}
 use borrow.Author.Needs.{needs}
-use Rattle.word_filter.specs.Filter.{noPlaces, placesFrom, firstPlaces}
+use Rattle.word_filter.specs.Filter.{slotOf, noPlaces, placesFrom, firstPlaces}
 use Rattle.word_filter.proofs.Tables.{none-stored, one-stored}
 use Rattle.word_filter.proofs.first_places.Statement.{statement}
 use Rattle.word_filter.proofs.first_places.Tie as tie
@@ -28,9 +28,10 @@ loop-again c =
     let turn = c .before in
     let at = turn .before in
     let words = at .before .args .t1 in
-    let place = at .loop .place in (
+    let place = at .loop .place in
+    let own : c .slot .result ≡ slotOf (getD words (place - 1) 0) = c .slot .ensures in (
       omega arith,
-      ap₂ (λ (places : List ℕ) (slot : ℕ). set places slot (place - 1)) (at .loop .inv .1) (c .slot .ensures)
+      ap₂ (λ (places : List ℕ) (slot : ℕ). set places slot (place - 1)) (at .loop .inv .1) own
           ∙ one-stored place words (omega (arith, turn .loop-test .taken)) (omega (arith, sized (at .before))),
     )
 
@@ -48,12 +49,12 @@ first-places-spec =
     Inv-loop
     μ-loop
     loop-holds
-    (λ c. search needs)
-    (λ c. search needs)
-    (λ c. search needs)
-    (λ c κs. search needs)
-    (λ c. search needs)
-    (λ c. search needs)
-    (λ c. search needs)
+    (λ c. search needs)  -- sub-place
+    (λ c. search needs)  -- mul-slot
+    (λ c. search needs)  -- array-read-slot
+    (λ c κs. search needs)  -- slot-requires
+    (λ c. search needs)  -- cast-places
+    (λ c. search needs)  -- array-write-places
+    (λ c. search needs)  -- loop-less
     loop-again
     returns)

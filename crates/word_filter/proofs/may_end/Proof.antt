@@ -4,7 +4,7 @@ use Prim.Native.Nat.{ℕ}
 use lib.Dec.{ltb}
 use lib.ListN.{getD}
 use borrow.Author.Needs.{needs}
-use Rattle.word_filter.specs.Filter.{mayEnd}
+use Rattle.word_filter.specs.Filter.{slotOf, mayEnd}
 use Rattle.word_filter.proofs.Tables.{many-may-end}
 use Rattle.word_filter.proofs.may_end.Statement.{statement}
 use Rattle.word_filter.proofs.may_end.Tie as tie
@@ -20,7 +20,8 @@ unfolding mayEnd
 returns-2 c =
     let other = c .before .before in
     let a = other .before .before .args in
-    ap (λ (at : ℕ). ltb (getD (a .places .now) at 0) (a .end)) (c .before .slot .ensures)
+    let own : c .before .slot .result ≡ slotOf (a .want) = c .before .slot .ensures in
+    ap (λ (at : ℕ). ltb (getD (a .places .now) at 0) (a .end)) own
     ∙ ap (λ (letters : ℕ). mayEnd (a .places .now) letters (a .end) (a .want)) (sym (other .if2 .taken))
 
 returns-3 : tie.Need-returns-3
