@@ -2,7 +2,6 @@ pub mod First
 pub mod Steps
 pub mod Masks
 pub mod Words
-pub mod Scanned
 pub mod ArrayLengths
 pub mod Additive
 pub mod Examples

@@ -64,11 +64,11 @@ placed-found gap a b l s o ea eb e =
     rw (e, ea, eb)
     (ap₂ Found.At (sym (mask-padded xBit refl gap (l ∷ s))) (sym (mask-padded zBit refl gap (l ∷ s))))
 
-pub xMask-identity : (n : ℕ) → 0 ≡ xMask (replicate n I)
+xMask-identity : (n : ℕ) → 0 ≡ xMask (replicate n I)
 unfolding xMask
 xMask-identity n = sym (mask-identity xBit refl n)
 
-pub zMask-identity : (n : ℕ) → 0 ≡ zMask (replicate n I)
+zMask-identity : (n : ℕ) → 0 ≡ zMask (replicate n I)
 unfolding zMask
 zMask-identity n = sym (mask-identity zBit refl n)
 

@@ -1,13 +1,13 @@
 -- The steps of the search at words: the state is what is still wanted and shunned, and a letter takes its words away
--- from it. The last letter is where its words fit.
-use mathlib.Core.Bool.{Bool, true, false, not, _&&_}
+-- from it. The last letter is found by its word.
+use mathlib.Core.Bool.{Bool, true, false, not, _&&_, and-false}
 use mathlib.Core.List.{List, _∷_, _++_}
 use mathlib.Core.Option.{Option, none, some}
 use mathlib.Core.Path.{_≡_, refl, ap, ap₂, sym, subst, _∙_}
-use Prim.Native.Nat.{ℕ, zero, suc, _+_, _*_, _-_, _/_, _%_, _^_, min, _≤_, _<_}
+use Prim.Native.Nat.{ℕ, zero, suc, _+_, _*_, _-_, _^_, min, _≤_, _<_}
 use native.Mathlib.Numerals.{add-one}
 use native.Mathlib.Omega.{arith}
-use borrow.Author.Tests.{eqb-true, eq-eqb}
+use borrow.Author.Tests.{eqb-true, eq-eqb, ne-eqb}
 use lib.Bits.{bitXor, xor-self, xor-comm, xor-zero-r, xor-zero-l}
 use lib.Dec.{eqb}
 use lib.ListN.{getD, replicate, length}
@@ -16,13 +16,12 @@ use Rattle.letters.specs.declared.Letter.the-variants.{I, X, Y, Z}
 use Rattle.letters.specs.Letters.{struckLetter}
 use Rattle.pauli.proofs.Letters.{xMask-lt, zMask-lt}
 use Rattle.pauli.proofs.Masks.{xor-assoc}
-use Rattle.word_scan.specs.Scan.{fits}
 use Rattle.letter_sums.specs.Sums.{wordAt, sumOf, sumsTo, passes, earliestOf, earliestUpTo}
 use Rattle.letter_sums.proofs.Masks.{Masked}
 use Rattle.letter_sums.proofs.Steps as steps
 use Rattle.letter_sums.proofs.Steps.{first, firstUpTo}
 
-pub same-tests : (s t : Bool) → (s ≡ true → t ≡ true) → (t ≡ true → s ≡ true) → s ≡ t
+same-tests : (s t : Bool) → (s ≡ true → t ≡ true) → (t ≡ true → s ≡ true) → s ≡ t
 same-tests true t h k = sym (h refl)
 same-tests false true h k = k refl
 same-tests false false h k = refl
@@ -43,6 +42,12 @@ sum-moves w x want =
     back w x want e =
         ap (bitXor w) (e ∙ xor-comm want w) ∙ sym (xor-assoc w w want) ∙ ap (λ (k : ℕ). bitXor k want) (xor-self w)
         ∙ xor-zero-l want
+
+-- Two words whose sum is 0 are the same.
+same-words : (want w : ℕ) → bitXor want w ≡ 0 → w ≡ want
+same-words want w e =
+    eqb-true w want
+    (sym (ap (λ (x : ℕ). eqb x want) (xor-zero-r w)) ∙ sum-moves w 0 want ∙ eq-eqb 0 (bitXor want w) (sym e))
 
 word-number : (words : List ℕ) (n k : ℕ) → k < 3 → wordAt words n (struckLetter k) ≡ getD words (3 * n + k) 0
 unfolding wordAt struckLetter
@@ -148,59 +153,31 @@ module _ (words second : List ℕ) where
 
   -- ---- no letters left
 
-  -- I fits, or it does not.
+  -- I has the words 0 and 0: they are the wanted one and not the shunned one, or nothing is found.
   weightless : (n want shun : ℕ)
-      → earliestOf words second n 0 want shun ≡ elim (fits want shun 0 0) [ true ↦ some (replicate n I) | false ↦ none ]
-  unfolding first earliestOf passes sumsTo sumOf fits
+      → earliestOf words second n 0 want shun
+      ≡ elim (eqb 0 want && not (eqb 0 shun)) [ true ↦ some (replicate n I) | false ↦ none ]
+  unfolding first earliestOf passes sumsTo sumOf
   weightless n want shun = steps.weightless test after moves still n (want, shun)
 
-  -- I is the earliest string; where it does not fit, the weights are tried from 1 on.
-  pub identity-first : (n t want shun : ℕ) → fits want shun 0 0 ≡ true
-      → earliestUpTo words second n t want shun ≡ some (replicate n I)
-  identity-first n t want shun e =
-      up-to-some n t want shun 0 (replicate n I) (omega arith) (λ v h. absurd (omega arith))
-      (weightless n want shun ∙ rw e)
+  pub identity-fits : (n want shun : ℕ) → want ≡ 0 → (shun ≡ 0 → ⊥)
+      → earliestOf words second n 0 want shun ≡ some (replicate n I)
+  identity-fits n want shun e h =
+      weightless n want shun ∙ rw (eq-eqb 0 want (sym e), ne-eqb 0 shun (λ q. h (sym q)))
 
-  pub none-lighter-than-one : (n want shun : ℕ) → fits want shun 0 0 ≡ false → NoneLighter n want shun 1
-  none-lighter-than-one n want shun e zero h = weightless n want shun ∙ rw e
-  none-lighter-than-one n want shun e (suc v) h = absurd (omega arith)
+  pub identity-unwanted : (n want shun : ℕ) → (want ≡ 0 → ⊥) → earliestOf words second n 0 want shun ≡ none
+  identity-unwanted n want shun h = weightless n want shun ∙ rw (ne-eqb 0 want (λ q. h (sym q)))
 
-  -- ---- the last letter
+  pub identity-shunned : (n want shun : ℕ) → shun ≡ 0 → earliestOf words second n 0 want shun ≡ none
+  identity-shunned n want shun e = weightless n want shun ∙ rw (eq-eqb 0 shun (sym e), and-false (eqb 0 want))
 
-  -- The words of a last letter fit, or they do not.
-  last-letter : (n want shun k : ℕ)
-      → behind n 0 want shun k ≡ elim (fits want shun (getD words (3 * n + k) 0) (getD second (3 * n + k) 0))
-      [ true ↦ some (replicate n I) | false ↦ none ]
-  unfolding fits
-  last-letter n want shun k =
-      weightless n _ _ ∙ rw (compared (getD words (3 * n + k) 0) want, compared (getD second (3 * n + k) 0) shun)
-    where
-      compared : (w sum : ℕ) → eqb 0 (bitXor sum w) ≡ eqb w sum
-      compared w sum = sym (sum-moves w 0 sum) ∙ ap (λ (x : ℕ). eqb x sum) (xor-zero-r w)
+  -- ---- one letter left
 
-  module _ (want shun : ℕ) where
-    abbrev pub FitsAt : ℕ → Bool → Type 0
-    FitsAt place told = fits want shun (getD words place 0) (getD second place 0) ≡ told
-
-    none-there : (n k : ℕ) → FitsAt (3 * n + k) false → behind n 0 want shun k ≡ none
-    none-there n k e = last-letter n want shun k ∙ rw e
-
-    some-there : (n k : ℕ) → FitsAt (3 * n + k) true → behind n 0 want shun k ≡ some (replicate n I)
-    some-there n k e = last-letter n want shun k ∙ rw e
-
-    pub none-single : (n : ℕ) → ((j : ℕ) → j < 3 * n → FitsAt j false) → earliestOf words second n 1 want shun ≡ none
-    none-single zero each = none-short 0 1 want shun (omega arith)
-    none-single (suc n) each =
-        subst (λ (m : ℕ). earliestOf words second m 1 want shun ≡ none) (add-one n)
-        (none-to-the-right n 1 want shun (omega arith) (none-single n (λ j l. each j (omega arith)))
-        (λ k l. none-there n k (each (3 * n + k) (omega arith))))
-
-    pub some-single : (n place : ℕ) → place < 3 * n → ((j : ℕ) → j < place → FitsAt j false) → FitsAt place true
-        → earliestOf words second n 1 want shun
-        ≡ some (replicate (n - place / 3 - 1) I ++ (struckLetter (place % 3) ∷ replicate (place / 3) I))
-    some-single n place inside each here =
-        let at : 3 * (place / 3) + place % 3 ≡ place = omega arith in
-        found-here n 1 want shun (place / 3) (place % 3) (replicate (place / 3) I) (omega arith) (omega arith)
-        (omega arith) (none-single (place / 3) (λ j l. each j (omega arith)))
-        (λ k l. none-there (place / 3) k (each (3 * (place / 3) + k) (omega arith)))
-        (some-there (place / 3) (place % 3) (subst (λ (p : ℕ). FitsAt p true) (sym at) here))
+  -- A letter is found by its word, so nothing is found where no letter has the wanted one.
+  pub none-single : (n want shun : ℕ) → ((j : ℕ) → j < 3 * n → getD words j 0 ≡ want → ⊥)
+      → earliestOf words second n 1 want shun ≡ none
+  none-single zero want shun each = none-short 0 1 want shun (omega arith)
+  none-single (suc n) want shun each =
+      subst (λ (m : ℕ). earliestOf words second m 1 want shun ≡ none) (add-one n)
+      (none-to-the-right n 1 want shun (omega arith) (none-single n want shun (λ j l. each j (omega arith)))
+      (λ k l. identity-unwanted n _ _ (λ q. each (3 * n + k) (omega arith) (same-words want _ q))))

@@ -5,13 +5,15 @@ use letter_sums::Found;
 use letter_sums::LetterWords;
 use letter_sums::QUBIT_ROOM;
 use letters::Letter;
-use word_scan::first_place;
-ghost use mathlib.Core.Bool.{false};
+use word_filter::SLOTS;
+use word_filter::first_places;
+use word_filter::may_end;
+ghost use mathlib.Core.List.{List};
 ghost use mathlib.Core.Path.{_≡_};
-ghost use Prim.Native.Nat.{_+_, _*_, _^_, min, _≤_, _<_};
+ghost use Prim.Native.Nat.{ℕ, _+_, _*_, _^_, min, _≤_, _<_};
 ghost use lib.ListN.{length};
 ghost use Rattle.letters.specs.Letters.{struckLetter};
-ghost use Rattle.word_scan.specs.Scan.{fits};
+ghost use Rattle.word_filter.specs.Filter.{firstPlaces};
 ghost use Rattle.letter_sums.specs.Sums.{placedAt, foundAs, earliestOf, earliestUpTo, earliestBy};
 
 // The masks of `gap` letters I, then the letter numbered 0, 1, 2 (X, Y, Z), then `right` letters that have the masks a
@@ -29,24 +31,22 @@ fn placed(gap: usize, letter: usize, right: usize, a: u32, b: u32) -> Found
     }
 }
 
-// The earliest string of one letter on the last `qubits` qubits.
-fn single(first: &[u32], second: &[u64], qubits: usize, want: u32, shun: u64) -> Found
-    requires { ⌜ qubits ≤ 32 ⌝ }
-    requires { ⌜ 3 * qubits ≤ length (now first) ⌝ }
-    requires { ⌜ 3 * qubits ≤ length (now second) ⌝ }
-    ensures { λ r. ⌜ r ≡ foundAs (earliestOf (now (first .entry)) (now (second .entry)) qubits 1 want shun) ⌝ }
+// The string of letters I, whose words are 0: it is found where they are the wanted one and not the shunned one.
+fn identity(want: u32, shun: u64) -> Found
+    ensures { λ r. ⌜ ((first second : List ℕ) (n : ℕ) → r ≡ foundAs (earliestOf first second n 0 want shun)) ⌝ }
 {
-    let end = 3 * qubits;
-    let place = first_place(&first[..end], &second[..end], want, shun);
-    if place >= end {
-        return Found::Nothing;
+    if want == 0 {
+        if shun != 0 {
+            return Found::At { a: 0, b: 0 };
+        }
     }
-    placed(qubits - place / 3 - 1, place % 3, place / 3, 0, 0)
+    Found::Nothing
 }
 
-// The earliest string of a weight above 0 on the last `qubits` qubits. The fewer qubits are to the right of the first
+// The earliest string of a weight on the last `qubits` qubits. The fewer qubits are to the right of the first
 // letter that is not I, the earlier is the string.
 fn completion(
+    places: &[u8; SLOTS],
     first: &[u32],
     second: &[u64],
     qubits: usize,
@@ -54,29 +54,34 @@ fn completion(
     want: u32,
     shun: u64,
 ) -> Found
-    requires { ⌜ 0 < weight ⌝ }
     requires { ⌜ qubits ≤ 32 ⌝ }
     requires { ⌜ 3 * qubits ≤ length (now first) ⌝ }
     requires { ⌜ 3 * qubits ≤ length (now second) ⌝ }
+    requires { ⌜ now places ≡ firstPlaces (now first) ⌝ }
     ensures { λ r. ⌜ r ≡ foundAs (earliestOf (now (first .entry)) (now (second .entry)) qubits weight want shun) ⌝ }
 {
-    if weight == 1 {
-        return single(first, second, qubits, want, shun);
+    if weight == 0 {
+        return identity(want, shun);
     }
+    let letters = weight - 1;
     'search: loop {
-        for right in weight - 1..qubits {
+        for right in letters..qubits {
             for letter in 0..3usize {
                 let place = 3 * right + letter;
-                let behind = completion(
-                    first,
-                    second,
-                    right,
-                    weight - 1,
-                    want ^ first[place],
-                    shun ^ second[place],
-                );
-                if let Found::At { a, b } = behind {
-                    break 'search placed(qubits - right - 1, letter, right, a, b);
+                let rest = want ^ first[place];
+                if may_end(places, letters, place as u8, rest) {
+                    let behind = completion(
+                        places,
+                        first,
+                        second,
+                        right,
+                        letters,
+                        rest,
+                        shun ^ second[place],
+                    );
+                    if let Found::At { a, b } = behind {
+                        break 'search placed(qubits - right - 1, letter, right, a, b);
+                    }
                 }
             }
         }
@@ -91,15 +96,9 @@ fn smaller(m: usize, n: usize) -> usize
     if m < n { m } else { n }
 }
 
-// Whether the words of I, which are 0, are the ones wanted.
-fn identity_fits(want: u32, shun: u64) -> bool
-    ensures { λ r. ⌜ r ≡ fits want shun 0 0 ⌝ }
-{
-    want == 0 && shun != 0
-}
-
-// The earliest string of weight 1 to `most`.
+// The earliest string of weight at most `most`.
 fn lightest(
+    places: &[u8; SLOTS],
     first: &[u32],
     second: &[u64],
     qubits: usize,
@@ -111,12 +110,12 @@ fn lightest(
     requires { ⌜ qubits ≤ 32 ⌝ }
     requires { ⌜ 3 * qubits ≤ length (now first) ⌝ }
     requires { ⌜ 3 * qubits ≤ length (now second) ⌝ }
-    requires { ⌜ fits want shun 0 0 ≡ false ⌝ }
+    requires { ⌜ now places ≡ firstPlaces (now first) ⌝ }
     ensures { λ r. ⌜ r ≡ foundAs (earliestUpTo (now (first .entry)) (now (second .entry)) qubits most want shun) ⌝ }
 {
     'search: loop {
-        for weight in 1..most + 1 {
-            let found = completion(first, second, qubits, weight, want, shun);
+        for weight in 0..most + 1 {
+            let found = completion(places, first, second, qubits, weight, want, shun);
             if let Found::At { .. } = found {
                 break 'search found;
             }
@@ -129,11 +128,17 @@ fn lightest(
 pub fn earliest(words: LetterWords, t: usize, want: u32, shun: u64) -> Found
     ensures { λ r. ⌜ r ≡ earliestBy words t want shun ⌝ }
 {
-    if identity_fits(want, shun) {
-        return Found::At { a: 0, b: 0 };
-    }
     let first = words.first;
     let second = words.second;
     let qubits = smaller(words.qubits, QUBIT_ROOM);
-    lightest(&first, &second, qubits, smaller(t, qubits), want, shun)
+    let places = first_places(first);
+    lightest(
+        &places,
+        &first,
+        &second,
+        qubits,
+        smaller(t, qubits),
+        want,
+        shun,
+    )
 }

@@ -1,22 +1,13 @@
--- I is tried first. The other weights end at t, or at the number of qubits.
-use mathlib.Core.Path.{ap, sym, _∙_}
-use Prim.Native.Nat.{ℕ, min}
+-- The weights end at t, or at the number of qubits.
+use mathlib.Core.Path.{ap, _∙_}
+use Prim.Native.Nat.{ℕ}
 use native.Mathlib.Omega.{arith}
 use borrow.Author.Needs.{needs}
-use Rattle.letter_sums.specs.Sums.{qubitRoom, foundAs, earliestUpTo, earliestBy}
+use Rattle.letter_sums.specs.Sums.{foundAs, earliestUpTo, earliestBy}
 use Rattle.letter_sums.proofs.ArrayLengths.{first-room, second-room}
-use Rattle.letter_sums.proofs.Masks.{identity-found}
-use Rattle.letter_sums.proofs.Words.{identity-first, up-to-all}
+use Rattle.letter_sums.proofs.Words.{up-to-all}
 use Rattle.search.proofs.earliest.Statement.{statement}
 use Rattle.search.proofs.earliest.Tie as tie
-
-returns : tie.Need-returns
-unfolding earliestBy
-returns c =
-    let a = c .before .before .args in
-    identity-found (min (a .words .qubits) qubitRoom) _
-    (identity-first (a .words .first) (a .words .second) (min (a .words .qubits) qubitRoom) (a .t) (a .want) (a .shun)
-    (sym (c .before .identity-fits .ensures) ∙ c .if1 .taken))
 
 slice-aggregate-lightest : tie.Need-slice-aggregate-lightest
 slice-aggregate-lightest c =
@@ -30,28 +21,25 @@ slice-aggregate-lightest-2 c =
 
 lightest-requires : tie.Need-lightest-requires
 lightest-requires c κs =
-    let few = c .before .before .before .smaller .ensures in
-    let other = c .before .before .before .before .before .before in
-    let start = other .before .before in
+    let made = c .before .before .before .before in
+    let few = made .before .smaller .ensures in
+    let start = made .before .before .before .before in
     let words = start .args .words in (
       omega (arith, c .smaller2 .ensures),
       (
         omega (arith, few),
         (
           omega (arith, few, first-room words (start .good .0)),
-          (
-            omega (arith, few, second-room words (start .good .0)),
-            sym (other .before .identity-fits .ensures) ∙ other .if1 .left,
-          ),
+          (omega (arith, few, second-room words (start .good .0)), made .first-places .ensures),
         ),
       ),
     )
 
-returns-2 : tie.Need-returns-2
+returns : tie.Need-returns
 unfolding earliestBy
-returns-2 c =
+returns c =
+    let n = c .before .before .before .before .before .before .smaller in
     let a = c .before .before .before .before .before .before .before .before .before .args in
-    let n = c .before .before .before .before .smaller in
     c .lightest .ensures
     ∙ ap (λ (m : ℕ). foundAs (earliestUpTo (a .words .first) (a .words .second) (n .result) m (a .want) (a .shun)))
     (c .before .smaller2 .ensures)
@@ -62,5 +50,5 @@ returns-2 c =
 pub earliest-spec : {M : Type 1} → statement M
 earliest-spec =
     tie.close
-    (tie.spec (λ c κs. search needs) returns (λ c κs. search needs) slice-aggregate-lightest
-    slice-aggregate-lightest-2 (λ c κs. search needs) lightest-requires returns-2)
+    (tie.spec (λ c κs. search needs) (λ c κs. search needs) slice-aggregate-lightest slice-aggregate-lightest-2
+    (λ c κs. search needs) lightest-requires returns)

@@ -1,0 +1,47 @@
+// A filter of words, for the last letters of a string in the search: it rules most strings out before their last letter
+// is looked for.
+use letter_sums::WORD_ROOM;
+ghost use mathlib.Core.Path.{_≡_};
+ghost use Rattle.word_filter.specs.Filter.{slotOf, firstPlaces, mayEnd};
+
+// How many slots a table has, and what stands at a slot that no word has. It is behind every place.
+pub const SLOTS: usize = 4096;
+
+const NO_PLACE: u8 = 255;
+
+// The slot of a word. Words of one kind of letter may differ in their upper bits alone, so these are brought in.
+fn slot(word: u32) -> usize
+    ensures { λ r. ⌜ r ≡ slotOf word ⌝ }
+{
+    ((word ^ (word / 4096)) % 4096) as usize
+}
+
+// The first place of a word for each slot. The places are stored from the last one down, so that the first one stays.
+pub fn first_places(words: [u32; WORD_ROOM]) -> [u8; SLOTS]
+    ensures { λ r. ⌜ r ≡ firstPlaces words ⌝ }
+{
+    let mut places = [NO_PLACE; SLOTS];
+    let mut place: usize = WORD_ROOM;
+    while 0 < place {
+        place -= 1;
+        let at = slot(words[place]);
+        places[at] = place as u8;
+    }
+    places
+}
+
+// Whether a string may end with so many letters, where the places of their words are below `end` and the wanted word is
+// theirs. No letter has the word 0. One letter has a word with the slot of the wanted one. Of more letters nothing is
+// known.
+pub fn may_end(places: &[u8; SLOTS], letters: usize, end: u8, want: u32) -> bool
+    ensures { λ r. ⌜ r ≡ mayEnd (now (places .entry)) letters end want ⌝ }
+{
+    if letters == 0 {
+        return want == 0;
+    }
+    if letters == 1 {
+        let at = slot(want);
+        return places[at] < end;
+    }
+    true
+}
