@@ -2,7 +2,7 @@
 -- are those of the syndromes.
 use mathlib.Core.List.{List}
 use mathlib.Core.Path.{refl, ap, _∙_}
-use Prim.Native.Nat.{ℕ, _-_, _*_}
+use Prim.Native.Nat.{ℕ, _+_, _-_, _*_}
 use native.Mathlib.Omega.{arith}
 use lib.ListN.{set}
 use Rattle.pauli.specs.declared.Pauli.{Pauli}
@@ -47,7 +47,7 @@ loop-again c =
     let turn = c .before .before in
     let loop = turn .before .loop in
     let rows = turn .before .before .before .args .rows in
-    one-more (loop .inv) (omega (arith, turn .loop-test .taken)) (stored (loop .at)) (λ table m. refl)
+    one-more (loop .inv) (loop .at + 1) refl (omega (arith, turn .loop-test .taken)) (stored (loop .at)) (λ table m. refl)
     (c .remainder-word .ensures ∙ ap (word rows) (c .before .letter-for .ensures))
 
 returns : tie.Need-returns Inv-loop μ-loop
