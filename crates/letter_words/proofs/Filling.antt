@@ -36,7 +36,7 @@ module _ {word : Pauli → ℕ} {put : List ℕ → LetterWords} {n at : ℕ} {w
   room : at < 3 * n → at < wordRoom
   room inside = omega (arith, filling .few)
 
-  pub one-more : (next : ℕ) → next ≡ at + 1 → at < 3 * n → (store : LetterWords → ℕ → LetterWords)
+  one-more : (next : ℕ) → next ≡ at + 1 → at < 3 * n → (store : LetterWords → ℕ → LetterWords)
       → ((table : List ℕ) (m : ℕ) → store (put table) m ≡ put (set table at m))
       → {m : ℕ} → m ≡ wordFor word n at → Filling word put n next (store words m)
   one-more next e inside store stores own = record {

@@ -1,6 +1,6 @@
 -- The words of the letters at one qubit, of the generators from a place on: the bits of the generator before that place
 -- are joined to them, until all generators are passed.
-use mathlib.Core.Path.{_≡_, refl, ap, ap₂, sym, _∙_}
+use mathlib.Core.Path.{_≡_, ap, ap₂, sym, _∙_}
 use Prim.Native.Nat.{ℕ, _+_, _-_, _*_, _/_, _%_, _^_, _<_, _≤_}
 use native.Mathlib.Omega.{arith}
 use lib.Bits.{bitXor}
@@ -15,7 +15,8 @@ use Rattle.code_record.specs.Record.{rowRoom, generators}
 use Rattle.letter_sums.specs.Sums.{qubitRoom}
 use Rattle.syndrome_mask.proofs.GeneratorBits.{generators-length, mask-before, mask-room}
 use Rattle.letter_words.specs.Words.{singleLetter}
-use Rattle.letter_words.proofs.LetterBits.{x-bit, z-bit, y-sum}
+use Rattle.letter_words.proofs.LetterBits.{x-bit, z-bit}
+use Rattle.letter_words.proofs.Sums.{y-sum, syndromes-additive}
 
 -- The word of a letter, of the generators from a place on.
 abbrev wordFrom : Code → ℕ → ℕ → Letter → ℕ
@@ -91,4 +92,5 @@ module _ {code : Code} {qubit place x z : ℕ} (words : WordsFrom code qubit pla
   z-read = words .ofZ ∙ whole Z
 
   pub y-read : bitXor x z ≡ word Y
-  y-read = ap₂ bitXor x-read z-read ∙ y-sum qubit (words .within) (generators code)
+  y-read = ap₂ bitXor x-read z-read
+      ∙ y-sum (syndromeMask (generators code)) (syndromes-additive (generators code)) qubit (words .within)

@@ -5,35 +5,9 @@ use code_record::ROW_ROOM;
 use letter_sums::LetterWords;
 use letter_sums::QUBIT_ROOM;
 use letter_sums::WORD_ROOM;
-use letters::Letter;
-use letters::Sign;
-use pauli::Pauli;
 ghost use mathlib.Core.Path.{_≡_};
 ghost use Prim.Native.Nat.{min};
-ghost use Rattle.letters.specs.Letters.{struckLetter};
-ghost use Rattle.letter_words.specs.Words.{singleLetter, letterFor, syndromeWords};
-
-// The letter with a number, 0, 1, 2 for X, Y, Z, on one qubit, with sign +. Places count from 0, as bits do.
-fn single_letter(place: usize, number: usize) -> Pauli
-    ensures { λ r. ⌜ r ≡ singleLetter place (struckLetter number) ⌝ }
-{
-    if place < 32 {
-        let letter = Letter::struck(number);
-        return Pauli::signed(Sign::Plus, letter.x_bit() << place, letter.z_bit() << place);
-    }
-    Pauli::identity()
-}
-
-// The letter whose word stands at a place: those of the last qubit come first. Behind the words of all qubits there are
-// none, and the answer is a letter of the first qubit.
-pub fn letter_for(qubits: usize, at: usize) -> Pauli
-    ensures { λ r. ⌜ r ≡ letterFor qubits at ⌝ }
-{
-    if at / 3 < qubits {
-        return single_letter(qubits - 1 - at / 3, at % 3);
-    }
-    single_letter(0, at % 3)
-}
+ghost use Rattle.letter_words.specs.Words.{syndromeWords};
 
 // The lesser of a number and the room there is for it.
 fn at_most(room: usize, n: usize) -> usize

@@ -1,12 +1,10 @@
 -- The first words, qubit by qubit: those of the qubits passed are there, and the others are still 0. The bits of a
 -- qubit's words, generator by generator: the inner loop starts behind the last, where there are none.
 use mathlib.Core.List.{List}
-use mathlib.Core.Path.{_≡_, refl, ap, ap₂, sym, _∙_}
-use Prim.Native.Nat.{ℕ, _+_, _-_, _*_, _^_, _<_, _≤_}
+use mathlib.Core.Path.{_≡_, refl, ap, _∙_}
+use Prim.Native.Nat.{ℕ, _+_, _-_, _*_, _^_, _<_}
 use native.Mathlib.Omega.{arith}
-use lib.ListN.{set, replicate, length, drop}
-use Rattle.letters.specs.declared.Letter.{Letter}
-use Rattle.letters.specs.declared.Letter.the-variants.{X, Y, Z}
+use lib.ListN.{set, replicate, length}
 use Rattle.pauli.specs.declared.Pauli.{Pauli}
 use Rattle.pauli.specs.Syndrome.{syndromeMask}
 use Rattle.code_record.specs.declared.Code.{Code}
@@ -14,9 +12,10 @@ use Rattle.code_record.specs.Record.{rowRoom, generators}
 use Rattle.code_record.proofs.ArrayLengths.{sized-of}
 use Rattle.letter_sums.specs.declared.LetterWords.{LetterWords}
 use Rattle.syndrome_mask.proofs.GeneratorBits.{generators-length}
-use Rattle.letter_words.specs.Words.{singleLetter, wordRoom, wordsOf, wordQubits, syndromeWords}
+use Rattle.letter_words.specs.Words.{wordRoom, wordsOf, wordQubits, syndromeWords}
 use Rattle.letter_words.proofs.Filling.{Filling, none-filled, three-more, all-filled}
-use Rattle.letter_words.proofs.GeneratorWords.{WordsFrom, none-read, x-small, z-small, one-more-read, x-read, y-read, z-read}
+use Rattle.letter_words.proofs.GeneratorWords.{WordsFrom, none-read, x-small, z-small, one-more-read}
+use Rattle.letter_words.proofs.GeneratorWords.{x-read, y-read, z-read}
 use borrow.Author.Needs.{needs}
 use Rattle.letter_words.proofs.syndrome_words.Statement.{statement}
 use Rattle.letter_words.proofs.syndrome_words.Tie as tie
@@ -47,41 +46,41 @@ abbrev μ-loop : tie.MeasureT-loop
 
 -- ---- a generator
 
+room : (start : tie.Start Inv-loop2 μ-loop2 Inv-loop μ-loop) → length (start .args .t1 .g) ≡ rowRoom
+room start = sized-of (start .args .t1) (start .good .0) .roomG
+
 module _ (c : tie.In-loop2 Inv-loop2 μ-loop2 Inv-loop μ-loop) where
   abbrev start : tie.Start Inv-loop2 μ-loop2 Inv-loop μ-loop
   start = c .before .before .before .before .before .before
 
-  room : length (start .args .t1 .g) ≡ rowRoom
-  room = sized-of (start .args .t1) (start .good .0) .roomG
-
   x-fits : c .before .loop2 .x < 2 ^ 31
-  x-fits = x-small (c .before .loop2 .inv) room (c .loop2-test .taken)
+  x-fits = x-small (c .before .loop2 .inv) (room start) (c .loop2-test .taken)
 
   z-fits : c .before .loop2 .z < 2 ^ 31
-  z-fits = z-small (c .before .loop2 .inv) room (c .loop2-test .taken)
+  z-fits = z-small (c .before .loop2 .inv) (room start) (c .loop2-test .taken)
 
 -- ---- the needs
 
 loop-holds : tie.Need-loop-holds Inv-loop2 μ-loop2 Inv-loop μ-loop
 loop-holds c =
-    let qubits = c .before .at-most .result in (
+    let code = c .before .before .args .t1 in
+    let counted = c .before .at-most in (
       omega arith,
-      none-filled (word (c .before .before .args .t1)) (value qubits) qubits _ (omega (arith, c .before .at-most .ensures))
-          refl,
+      none-filled (word code) (value (counted .result)) (counted .result) _ (omega (arith, counted .ensures)) refl,
     )
 
 loop2-holds : tie.Need-loop2-holds Inv-loop2 μ-loop2 Inv-loop μ-loop
 loop2-holds c =
     let start = c .before .before .before .before in
     let code = start .args .t1 in
-    let room = sized-of code (start .good .0) .roomG in
-    none-read code (c .before .loop .qubit - 1) (omega (arith, c .before .loop .inv .0, c .before .loop .inv .1 .few))
-    room (omega (arith, c .before .before .at-most2 .ensures, generators-length code, room))
+    let loop = c .before .loop in
+    none-read code (loop .qubit - 1) (omega (arith, loop .inv .0, loop .inv .1 .few)) (room start)
+    (omega (arith, c .before .before .at-most2 .ensures, generators-length code, room start))
 
 loop2-again : tie.Need-loop2-again Inv-loop2 μ-loop2 Inv-loop μ-loop
 loop2-again c =
     let turn = c .before .before .before in
-    one-more-read (turn .before .loop2 .inv) (room turn) (turn .loop2-test .taken)
+    one-more-read (turn .before .loop2 .inv) (room (start turn)) (turn .loop2-test .taken)
 
 loop-again : tie.Need-loop-again Inv-loop2 μ-loop2 Inv-loop μ-loop
 loop-again c =
@@ -92,7 +91,8 @@ loop-again c =
     let inv = c .before .loop2 .inv in
     let first : c .before .loop2 .place ≡ 0 = omega (arith, c .loop2-test .left) in (
       omega (arith, loop .inv .0, turn .loop-test .taken),
-      three-more (word code) qubits (loop .at) (loop .qubit - 1) (omega (arith, loop .inv .0, turn .loop-test .taken)) (loop .inv .1) stored (λ i table m. refl)
+      three-more (word code) qubits (loop .at) (loop .qubit - 1)
+          (omega (arith, loop .inv .0, turn .loop-test .taken)) (loop .inv .1) stored (λ i table m. refl)
           (x-read inv first) (y-read inv first) (z-read inv first),
     )
 
