@@ -1,39 +1,40 @@
--- A letter on one qubit: its masks, and that there is none behind a mask's 32 bits.
-use mathlib.Core.Path.{_≡_, ap, sym, _∙_}
-use Prim.Native.Nat.{ℕ, _+_, _-_, _*_, _%_, _^_, _≤_, _<_}
-use native.Mathlib.Nat.{mul-mod-left, mul-assoc}
+-- A letter on one qubit: its masks.
+use mathlib.Core.Path.{_≡_, _∙_}
+use Prim.Native.Nat.{ℕ, _*_, _%_, _^_, _<_}
+use native.Mathlib.Nat.{zero-mul, one-mul}
 use native.Mathlib.Omega.{arith}
-use lib.Pow.{pow-add, shl-exact}
+use lib.Pow.{shl-exact}
 use Rattle.letters.specs.declared.Letter.{Letter}
+use Rattle.letters.specs.declared.Letter.the-variants.{X, Y, Z}
 use Rattle.letters.specs.Letters.{xBit, zBit}
-use Rattle.pauli.specs.Letters.{rowPhase, rowOf}
-use Rattle.pauli.specs.Masks.{dot}
-use Rattle.pauli.specs.Product.{identity}
+use Rattle.pauli.specs.declared.Pauli.{Pauli}
+use Rattle.pauli.specs.Letters.{rowOf}
 use Rattle.pauli.proofs.Letters.{xBit-lt, zBit-lt}
-use Rattle.pauli.proofs.Masks.{countOnes-zero}
 use Rattle.letter_words.specs.Words.{singleLetter}
 
--- ---- one bit at a place
+pub record HasMasks (P : Pauli) (a b : ℕ) : Type 0 where
+  pub ofX : P .a ≡ a
+  pub ofZ : P .b ≡ b
 
-bit-behind : (x place : ℕ) → 32 ≤ place → x * 2 ^ place % 2 ^ 32 ≡ 0
-bit-behind x place h =
-    ap (λ (k : ℕ). x * 2 ^ k % 2 ^ 32) (split place h)
-    ∙ ap (λ (k : ℕ). x * k % 2 ^ 32) (pow-add 2 (place - 32) 32)
-    ∙ ap (λ (k : ℕ). k % 2 ^ 32) (sym (mul-assoc x (2 ^ (place - 32)) (2 ^ 32)))
-    ∙ mul-mod-left (x * 2 ^ (place - 32)) (2 ^ 32)
-  where
-    split : (place : ℕ) → 32 ≤ place → place ≡ place - 32 + 32
-    split place h = omega arith
+module _ (place : ℕ) (within : place < 32) where
+  bit-within : (x : ℕ) → x < 2 → x * 2 ^ place % 2 ^ 32 ≡ x * 2 ^ place
+  bit-within x h = shl-exact 1 place 32 h (omega arith)
 
-bit-within : (x place : ℕ) → x < 2 → place < 32 → x * 2 ^ place % 2 ^ 32 ≡ x * 2 ^ place
-bit-within x place hx h = shl-exact 1 place 32 hx (omega arith)
+  pub masks-of-single : (l : Letter) → HasMasks (singleLetter place l) (xBit l * 2 ^ place) (zBit l * 2 ^ place)
+  unfolding singleLetter rowOf
+  masks-of-single l = record { ofX = bit-within (xBit l) (xBit-lt l); ofZ = bit-within (zBit l) (zBit-lt l) }
 
-pub behind-masks : (place : ℕ) (l : Letter) → 32 ≤ place → identity ≡ singleLetter place l
-unfolding singleLetter rowOf rowPhase dot
-behind-masks place l h = rw (bit-behind (xBit l) place h, bit-behind (zBit l) place h, countOnes-zero)
+  abbrev bit : ℕ
+  bit = 2 ^ place
 
-pub masks-of-single : (place : ℕ) (l : Letter) → place < 32
-    → (singleLetter place l .a ≡ xBit l * 2 ^ place) × (singleLetter place l .b ≡ zBit l * 2 ^ place)
-unfolding singleLetter rowOf
-masks-of-single place l h =
-    (bit-within (xBit l) place (xBit-lt l) h, bit-within (zBit l) place (zBit-lt l) h)
+  pub masks-of-x : HasMasks (singleLetter place X) (2 ^ place) 0
+  masks-of-x =
+      let masks = masks-of-single X in record { ofX = masks .ofX ∙ one-mul bit; ofZ = masks .ofZ ∙ zero-mul bit }
+
+  pub masks-of-y : HasMasks (singleLetter place Y) (2 ^ place) (2 ^ place)
+  masks-of-y =
+      let masks = masks-of-single Y in record { ofX = masks .ofX ∙ one-mul bit; ofZ = masks .ofZ ∙ one-mul bit }
+
+  pub masks-of-z : HasMasks (singleLetter place Z) 0 (2 ^ place)
+  masks-of-z =
+      let masks = masks-of-single Z in record { ofX = masks .ofX ∙ zero-mul bit; ofZ = masks .ofZ ∙ one-mul bit }

@@ -5,7 +5,7 @@ use mathlib.Core.Path.{_≡_, refl, ap, ap₂, sym, _∙_}
 use Prim.Native.Nat.{ℕ, suc, _+_, _-_, _*_, _/_, _%_, _^_, _≤_, _<_, min}
 use native.Mathlib.Nat.{zero-mul}
 use native.Mathlib.Omega.{arith}
-use lib.Bits.{bitXor, xor-self}
+use lib.Bits.{bitXor, xor-self, xor-zero-r}
 use lib.Dec.{eqb}
 use lib.ListN.{length, getD}
 use Rattle.letters.specs.declared.Letter.{Letter}
@@ -26,7 +26,7 @@ use Rattle.letter_sums.specs.Sums.{qubitRoom, wordAt, sumOf, sumsTo, passes, ea
 use Rattle.letter_sums.proofs.Additive.{IsTable, sum-of-table}
 use Rattle.letter_words.specs.Statements.{SyndromesAreSummed}
 use Rattle.letter_words.specs.Words.{singleLetter, letterFor, wordsOf, wordQubits, syndromeWords, earliestWith}
-use Rattle.letter_words.proofs.Singles.{masks-of-single}
+use Rattle.letter_words.proofs.Singles.{masks-of-single, masks-of-x, masks-of-y, masks-of-z}
 use Rattle.letter_words.proofs.Tables.{filled-word, filled-zeros}
 
 -- It depends on the masks alone, and takes products to sums of bits.
@@ -48,6 +48,19 @@ module _ (word : Pauli → ℕ) (additive : Additive word) where
   of-identity : masks-word 0 0 ≡ 0
   of-identity = adds 0 0 0 0 ∙ xor-self (masks-word 0 0)
 
+  -- Y is the product of X and Z, phase aside.
+  pub y-sum : (place : ℕ) → place < qubitRoom
+      → bitXor (word (singleLetter place X)) (word (singleLetter place Z)) ≡ word (singleLetter place Y)
+  unfolding product
+  y-sum place within =
+      let x = masks-of-x place within in
+      let y = masks-of-y place within in
+      let z = masks-of-z place within in
+      sym (additive .ofProduct (singleLetter place X) (singleLetter place Z))
+      ∙ additive .ofMasks (product (singleLetter place X) (singleLetter place Z)) (singleLetter place Y)
+      (ap₂ bitXor (x .ofX) (z .ofX) ∙ xor-zero-r (2 ^ place) ∙ sym (y .ofX))
+      (ap₂ bitXor (x .ofZ) (z .ofZ) ∙ sym (y .ofZ))
+
   module _ (n : ℕ) (few : n ≤ qubitRoom) where
     -- The word of the letter numbered k at the qubit with m to its right and g to its left.
     letter-word : (g m k : ℕ) → k < 3 → g + suc m ≡ n
@@ -56,10 +69,11 @@ module _ (word : Pauli → ℕ) (additive : Additive word) where
     unfolding wordsOf letterFor masks-word
     letter-word g m k hk e =
         let l = struckLetter k in
-        let masks = masks-of-single g l (omega arith) in
+        let masks = masks-of-single g (omega arith) l in
         filled-word (λ at. word (letterFor n at)) (3 * n) (3 * m + k) (omega arith) (omega arith)
         ∙ ap₂ (λ (place number : ℕ). word (singleLetter place (struckLetter number))) (place g m k hk e) (number m k hk)
-        ∙ additive .ofMasks (singleLetter g l) (pauli 0 (xBit l * 2 ^ g) (zBit l * 2 ^ g)) (masks .0) (masks .1)
+        ∙ additive .ofMasks (singleLetter g l) (pauli 0 (xBit l * 2 ^ g) (zBit l * 2 ^ g)) (masks .ofX)
+        (masks .ofZ)
       where
         place : (g m k : ℕ) → k < 3 → g + suc m ≡ n → n - 1 - (3 * m + k) / 3 ≡ g
         place g m k hk e = omega arith
@@ -84,7 +98,7 @@ module _ (word : Pauli → ℕ) (additive : Additive word) where
 
 -- ---- syndromes
 
-syndromes-additive : (rows : List Pauli) → Additive (syndromeMask rows)
+pub syndromes-additive : (rows : List Pauli) → Additive (syndromeMask rows)
 syndromes-additive rows = record {
   ofMasks = syndrome-mask-of-masks rows;
   ofProduct = syndrome-mask-is-additive rows;

@@ -1,1 +1,2 @@
+pub mod LettersLeft
 pub mod LogicalErrors

@@ -39,7 +39,7 @@ use Rattle.admission.specs.Distance.{isLogicalError, logicalErrorUpTo}
 use Rattle.logical_words.specs.Statements.{LogicalWordsAreSummed, LogicalErrorsAreFound}
 use Rattle.logical_words.specs.Words.{logicalWords}
 
-remainders-additive : (n : ℕ) (rows : List Pauli) → Additive (remainderWord n rows)
+pub remainders-additive : (n : ℕ) (rows : List Pauli) → Additive (remainderWord n rows)
 remainders-additive n rows = record {
   ofMasks = remainder-of-masks n rows;
   ofProduct = remainder-is-additive n rows;
