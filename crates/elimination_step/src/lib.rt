@@ -1,4 +1,4 @@
-// The elimination step: rows in reduced echelon form, with one row more.
+// The elimination step: rows in reduced echelon form, with what they leave of one row more.
 use code_record::ROW_ROOM;
 use columns::cleared;
 use columns::is_phase;
@@ -12,7 +12,7 @@ ghost use Rattle.pauli.specs.Product.{modulo4};
 ghost use Rattle.code_record.specs.Record.{rowRoom};
 ghost use Rattle.stabilizer.specs.Canonical.{cleared, insertByPivot};
 ghost use Rattle.reduced_rows.specs.Rows.{rowsIn, reducedOf};
-ghost use Rattle.elimination_step.specs.Step.{belowPivot, addition};
+ghost use Rattle.elimination_step.specs.Step.{belowPivot, joined};
 
 // The rows whose first one comes before q's, with their ones in the column of q's taken away.
 fn below(hs: ReducedRows, q: Pauli) -> ReducedRows
@@ -67,12 +67,11 @@ fn modulo4(p: Pauli) -> Pauli
     }
 }
 
-// A row is reduced, and joins the rows where something other than a phase is left of it and the array has room.
-// Otherwise they stay as they were.
-pub fn add(hs: ReducedRows, p: Pauli) -> ReducedRows
-    ensures { λ r. ⌜ r ≡ addition hs p ⌝ }
+// What the rows leave of a row joins them where it is more than a phase and the array has room. Otherwise they stay as
+// they were.
+pub fn join(hs: ReducedRows, left: Pauli) -> ReducedRows
+    ensures { λ r. ⌜ r ≡ joined hs left ⌝ }
 {
-    let left = hs.reduce(p);
     if hs.count < ROW_ROOM && !is_phase(left) {
         return insert(hs, modulo4(left));
     }
