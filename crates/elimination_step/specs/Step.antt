@@ -1,6 +1,6 @@
--- The elimination step: whether a row joins the rows, where it goes among them, and the rows with it.
-use mathlib.Core.Bool.{Bool, true, false, cond, not, _&&_}
-use mathlib.Core.List.{List, [], _∷_, map}
+-- The elimination step: where a row goes among the rows, whether it joins them, and the rows with it.
+use mathlib.Core.Bool.{Bool, true, false, cond, not, _&&_, _||_}
+use mathlib.Core.List.{map}
 use Prim.Native.Nat.{ℕ}
 use lib.Dec.{ltb}
 use Rattle.pauli.specs.declared.Pauli.{Pauli}
@@ -9,11 +9,14 @@ use Rattle.code_record.specs.Record.{rowRoom}
 use Rattle.stabilizer.specs.Canonical.{pivot, cleared, insertByPivot}
 use Rattle.reduced_rows.specs.declared.ReducedRows.{ReducedRows}
 use Rattle.reduced_rows.specs.Rows.{rowsIn, reducedOf}
+use Rattle.elimination_step.specs.declared.Passed.{Passed}
 
--- The rows in front of the first one whose pivot comes behind q's.
-unfoldable pub belowPivot : ℕ → Pauli → List Pauli → List Pauli
-belowPivot n q [] = []
-belowPivot n q (h ∷ hs) = elim (ltb (pivot n q) (pivot n h)) [ true ↦ [] | false ↦ h ∷ belowPivot n q hs ]
+-- The row h, past which a row is carried: it gives way once the new row is placed, and where its pivot is the first
+-- that comes behind that of the new row.
+unfoldable pub passing : ℕ → ℕ → Bool → Pauli → Pauli → Passed
+passing n first placed P h =
+    cond (placed || ltb first (pivot n h)) (record { here = P; carried = h; placed = true })
+    (record { here = h; carried = P; placed = false })
 
 -- Whether what the rows leave of a row joins them: there is room for one more, and it is more than a phase.
 unfoldable pub joins : ReducedRows → Pauli → Bool
