@@ -7,15 +7,13 @@ use letter_words::syndrome_words;
 use pauli::Pauli;
 use reduced_rows::ReducedRows;
 ghost use mathlib.Core.Path.{_≡_};
-ghost use Rattle.stabilizer.specs.Canonical.{remainderWord};
-ghost use Rattle.reduced_rows.specs.Rows.{rowsIn};
+ghost use Rattle.stabilizer.specs.Canonical.{sideBySide};
 ghost use Rattle.logical_words.specs.Words.{logicalWords};
 
-// What the rows leave of a Pauli, phase aside: its two masks side by side.
-fn remainder_word(rows: ReducedRows, p: Pauli) -> u64
-    ensures { λ r. ⌜ r ≡ remainderWord (rows .n) (rowsIn rows) p ⌝ }
+// What is left of a Pauli, phase aside: its two masks side by side.
+fn remainder_word(left: Pauli) -> u64
+    ensures { λ r. ⌜ r ≡ sideBySide (left .a) (left .b) ⌝ }
 {
-    let left = rows.reduce(p);
     left.a as u64 + 4294967296 * (left.b as u64)
 }
 
@@ -27,7 +25,7 @@ pub fn logical_words(code: Code, rows: ReducedRows) -> LetterWords
     let qubits = words.qubits;
     let mut at: usize = 0;
     while at < 3 * qubits {
-        words.second[at] = remainder_word(rows, letter_for(qubits, at));
+        words.second[at] = remainder_word(rows.reduce(letter_for(qubits, at)));
         at += 1;
     }
     words

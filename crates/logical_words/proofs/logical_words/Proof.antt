@@ -6,7 +6,7 @@ use Prim.Native.Nat.{ℕ, _-_, _*_}
 use native.Mathlib.Omega.{arith}
 use lib.ListN.{set}
 use Rattle.pauli.specs.declared.Pauli.{Pauli}
-use Rattle.stabilizer.specs.Canonical.{remainderWord}
+use Rattle.stabilizer.specs.Canonical.{sideBySide, remainderWord}
 use Rattle.reduced_rows.specs.declared.ReducedRows.{ReducedRows}
 use Rattle.reduced_rows.specs.Rows.{rowsIn}
 use Rattle.letter_sums.specs.declared.LetterWords.{LetterWords}
@@ -43,12 +43,15 @@ loop-holds c =
     (ap (λ (u : LetterWords). value w (u .second)) syndromes)
 
 loop-again : tie.Need-loop-again Inv-loop μ-loop
+unfolding remainderWord
 loop-again c =
-    let turn = c .before .before in
+    let left = c .before in
+    let turn = left .before .before in
     let loop = turn .before .loop in
     let rows = turn .before .before .before .args .rows in
     one-more (loop .inv) (omega (arith, turn .loop-test .taken)) (stored (loop .at)) (λ table m. refl)
-    (c .remainder-word .ensures ∙ ap (word rows) (c .before .letter-for .ensures))
+    (c .remainder-word .ensures ∙ ap (λ (P : Pauli). sideBySide (P .a) (P .b)) (left .reduce .ensures)
+    ∙ ap (word rows) (left .before .letter-for .ensures))
 
 returns : tie.Need-returns Inv-loop μ-loop
 unfolding logicalWords syndromeWords
@@ -67,6 +70,7 @@ logical-words-spec =
     (λ c κs. search needs)
     loop-holds
     (λ c. search needs)
+    (λ c κs. search needs)
     (λ c κs. search needs)
     (λ c κs. search needs)
     (λ c. search needs)
