@@ -30,7 +30,7 @@ use Rattle.reduced_rows.specs.RowKinds.{kindOf}
 use Rattle.reduced_rows.specs.Rows.{rowsIn, reducedOf}
 use Rattle.reduced_rows.proofs.RowKinds.{independent-left}
 use Rattle.reduced_rows.proofs.Rows.{rows-of}
-use Rattle.elimination_step.specs.Step.{addition}
+use Rattle.elimination_step.specs.Step.{joined}
 use Rattle.elimination_step.proofs.Step.{independent-joins}
 
 -- ---- the fault of a kind
@@ -89,8 +89,8 @@ module _ (n line : ℕ) (rows : List Pauli) (count : ℕ) where
     -- One row more, of rows of n qubits that commute.
     module _ (room : count ≤ length rows) (areRows : Rows n (take count rows))
         (commuting : Commuting whole (take count rows))
-        (few : place < count) (P : Pauli) (here : P ≡ getD rows place identity) {kind : Kind}
-        (told : kind ≡ kindOf (reduced (hs .n) (rowsIn hs) P)) where
+        (few : place < count) (P : Pauli) (here : P ≡ getD rows place identity) {rest : Pauli}
+        (after : rest ≡ reduced (hs .n) (rowsIn hs) P) {kind : Kind} (told : kind ≡ kindOf rest) where
       inside : place < length rows
       inside = omega arith
 
@@ -106,15 +106,15 @@ module _ (n line : ℕ) (rows : List Pauli) (count : ℕ) where
       kind-is : kind ≡ kindOf Q
       unfolding reducedOf Q
       kind-is =
-          told ∙ ap (λ r. kindOf (reduced (r .n) (rowsIn r) P)) (s .held)
+          told ∙ ap kindOf after ∙ ap (λ r. kindOf (reduced (r .n) (rowsIn r) P)) (s .held)
           ∙ ap₂ (λ hs P. kindOf (reduced n hs P)) (rows-of n (canonicalGenerators n (take place rows))) here
 
       reduced-is : count ≤ rowRoom → kind ≡ IsIndependent
-          → addition hs P ≡ reducedOf n (canonicalGenerators n (take (place + 1) rows))
+          → joined hs rest ≡ reducedOf n (canonicalGenerators n (take (place + 1) rows))
       unfolding reducedOf
       reduced-is small e =
           let short = stepped-count (omega (arith, inside)) in
-          independent-joins hs P (omega (arith, short)) (sym told ∙ e)
+          independent-joins hs P (omega (arith, short)) after (sym told ∙ e)
           ∙ ap (λ r. reducedOf (r .n) (added (r .n) (rowsIn r) P)) (s .held)
           ∙ ap₂ (λ hs P. reducedOf n (added n hs P)) (rows-of n (canonicalGenerators n (take place rows))) here
           ∙ ap (reducedOf n) (sym (canonical-more n (take place rows) (getD rows place identity)))
@@ -146,12 +146,12 @@ module _ (n line : ℕ) (rows : List Pauli) (count : ℕ) where
       unfolding _then_
       stepped-fault e f = ap (λ fault. fault then Left dependence rows count (place + 1) line) (sym f) ∙ found e
 
-      pub stepped-more : {longer : ReducedRows} → count ≤ rowRoom → kind ≡ IsIndependent → longer ≡ addition hs P
+      pub stepped-more : {longer : ReducedRows} → count ≤ rowRoom → kind ≡ IsIndependent → longer ≡ joined hs rest
           → Stepped (place + 1) longer
       unfolding _then_ Q reducesToIdentity
-      stepped-more small e added =
+      stepped-more small e more =
           record {
-            held = added ∙ reduced-is small e;
+            held = more ∙ reduced-is small e;
             independent =
                 subst (Independent n) (taken-more rows place inside)
                 (independent-more n (take place rows) (getD rows place identity) (s .independent) row commutes-before

@@ -3,6 +3,7 @@
 use code_record::Code;
 use reduced_rows::Kind;
 use reduced_rows::ReducedRows;
+use reduced_rows::kind_of;
 use refusals::Checked;
 use refusals::Family;
 use refusals::Refusal;
@@ -41,8 +42,8 @@ fn independence(code: Code) -> Elimination
     let mut reduced = ReducedRows::empty(code.n as u32);
     let mut place: usize = 0;
     while place < count {
-        let p = code.g[place];
-        match reduced.kind_of(p) {
+        let left = reduced.reduce(code.g[place]);
+        match kind_of(left) {
             Kind::Independent => {}
             Kind::PlusIdentity => {
                 return refused(Refusal::DependentGenerator(first + place, Family::Generator));
@@ -51,7 +52,7 @@ fn independence(code: Code) -> Elimination
                 return refused(Refusal::MinusIdentity(first + place, Family::Generator));
             }
         }
-        reduced = elimination_step::add(reduced, p);
+        reduced = elimination_step::join(reduced, left);
         place += 1;
     }
     Elimination {

@@ -3,18 +3,13 @@ use mathlib.Core.List.{List, [], _∷_, map}
 use mathlib.Core.Logic.{inl}
 use mathlib.Core.Path.{_≡_, refl, ap, sym, _∙_}
 use Prim.Native.Nat.{ℕ, zero, suc, _+_, _<_, _≤_}
-use native.Mathlib.Omega.{arith}
-use lib.ListN.{length, drop, getD, length-take}
+use lib.ListN.{length, drop, getD}
 use Rattle.pauli.specs.declared.Pauli.{Pauli}
 use Rattle.pauli.specs.Product.{identity}
 use Rattle.stabilizer.specs.Canonical.{cleared}
 use Rattle.reduced_rows.specs.declared.ReducedRows.{ReducedRows}
 use Rattle.reduced_rows.specs.Rows.{rowsIn}
 use Rattle.stabilizer.proofs.FirstRows.{taken-at, taken-end}
-
-pub count-is : (hs : ReducedRows) → hs .count ≤ length (hs .rows) → hs .count ≡ length (rowsIn hs)
-unfolding rowsIn
-count-is hs few = omega (arith, length-take (hs .count) (hs .rows))
 
 drop-map : (f : Pauli → Pauli) (i : ℕ) (rows : List Pauli) → drop i (map f rows) ≡ map f (drop i rows)
 drop-map f zero rows = refl

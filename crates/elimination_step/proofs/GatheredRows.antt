@@ -1,11 +1,11 @@
 -- Rows that are gathered one by one: those so far, joined with what is still to come, are the whole.
-use mathlib.Core.Bool.{Bool, true, false}
+use mathlib.Core.Bool.{Bool, true, false, cond}
 use mathlib.Core.List.{List, [], _∷_, _++_, append-assoc, append-nil}
 use mathlib.Core.Path.{_≡_, refl, ap, ap₂, sym, subst, _∙_}
-use Prim.Native.Nat.{ℕ, suc, _+_, _<_, _≤_}
+use Prim.Native.Nat.{ℕ, _+_, _<_}
 use native.Mathlib.Omega.{arith}
 use lib.Dec.{ltb}
-use lib.ListN.{length, drop, set, length-append}
+use lib.ListN.{length, set, length-append}
 use Rattle.pauli.specs.declared.Pauli.{Pauli}
 use Rattle.code_record.specs.Record.{rowRoom, filled}
 use Rattle.code_record.proofs.Filled.{filled-more}
@@ -13,7 +13,8 @@ use Rattle.stabilizer.specs.Canonical.{pivot, insertByPivot}
 use Rattle.reduced_rows.specs.declared.ReducedRows.{ReducedRows}
 use Rattle.reduced_rows.specs.Rows.{reducedOf}
 use Rattle.reduced_rows.proofs.Rows.{value}
-use Rattle.elimination_step.specs.Step.{belowPivot}
+use Rattle.elimination_step.specs.declared.Passed.{Passed}
+use Rattle.elimination_step.specs.Step.{passing}
 
 pub record Grown (n : ℕ) (hs : ReducedRows) (rest all : List Pauli) (size : ℕ) : Type 0 where
   pub rows : List Pauli
@@ -21,8 +22,9 @@ pub record Grown (n : ℕ) (hs : ReducedRows) (rest all : List Pauli) (size : �
   pub joined : rows ++ rest ≡ all
   pub sized : length rows ≡ size
 
-pub grown-none : (n : ℕ) (hs : ReducedRows) (all : List Pauli) → hs ≡ reducedOf n [] → Grown n hs all all 0
-grown-none n hs all e = record { rows = []; held = e; joined = refl; sized = refl }
+pub grown-none : (n : ℕ) (hs : ReducedRows) {rest all : List Pauli} → hs ≡ reducedOf n [] → rest ≡ all
+    → Grown n hs rest all 0
+grown-none n hs e whole = record { rows = []; held = e; joined = whole; sized = refl }
 
 pub grown-as : {n : ℕ} {hs : ReducedRows} {rest others all : List Pauli} {size : ℕ} → Grown n hs rest all size
     → rest ≡ others → Grown n hs others all size
@@ -54,41 +56,40 @@ grown-all {n = n} g = g .held ∙ ap (reducedOf n) (sym (append-nil (g .rows)) �
 
 -- ---- a row's place
 
-module _ (n : ℕ) (q h : Pauli) (hs : List Pauli) where
-  below-by : {t : Bool} → ltb (pivot n q) (pivot n h) ≡ t
-      → belowPivot n q (h ∷ hs) ≡ elim t [ true ↦ [] | false ↦ h ∷ belowPivot n q hs ]
-  unfolding belowPivot
-  below-by e = ap (λ t. elim t [ true ↦ [] | false ↦ h ∷ belowPivot n q hs ]) e
+-- The rows behind a place, once a row was carried through all of them.
+pub carriedThrough : ℕ → ℕ → Bool → Pauli → List Pauli → List Pauli
+carriedThrough n first placed P [] = P ∷ []
+carriedThrough n first placed P (h ∷ hs) =
+    let step = passing n first placed P h in
+    step .here ∷ carriedThrough n first (step .placed) (step .carried) hs
 
-  pub below-stops : ltb (pivot n q) (pivot n h) ≡ true → belowPivot n q (h ∷ hs) ≡ []
-  below-stops e = below-by e
+-- Behind the new row they keep their order.
+carried-behind : (n first : ℕ) (P : Pauli) (hs : List Pauli) → carriedThrough n first true P hs ≡ P ∷ hs
+unfolding carriedThrough passing
+carried-behind n first P [] = refl
+carried-behind n first P (h ∷ hs) = ap (λ l. P ∷ l) (carried-behind n first h hs)
 
-  pub below-goes-on : ltb (pivot n q) (pivot n h) ≡ false → belowPivot n q (h ∷ hs) ≡ h ∷ belowPivot n q hs
-  below-goes-on e = below-by e
-
-pub below-nothing : (n : ℕ) (q : Pauli) → belowPivot n q [] ≡ []
-unfolding belowPivot
-below-nothing n q = refl
-
--- It comes behind the rows below it.
-pub inserted-behind : (n : ℕ) (q : Pauli) (hs : List Pauli)
-    → belowPivot n q hs ++ q ∷ drop (length (belowPivot n q hs)) hs ≡ insertByPivot n q hs
-unfolding belowPivot insertByPivot
-inserted-behind n q [] = refl
-inserted-behind n q (h ∷ hs) = by (ltb (pivot n q) (pivot n h)) (inserted-behind n q hs)
+pub carried-to-place : (n : ℕ) (q : Pauli) (hs : List Pauli)
+    → carriedThrough n (pivot n q) false q hs ≡ insertByPivot n q hs
+unfolding carriedThrough passing insertByPivot
+carried-to-place n q [] = refl
+carried-to-place n q (h ∷ hs) = by (ltb (pivot n q) (pivot n h)) (carried-to-place n q hs)
   where
-    by : (t : Bool) → belowPivot n q hs ++ q ∷ drop (length (belowPivot n q hs)) hs ≡ insertByPivot n q hs
-        → let below : List Pauli = elim t [ true ↦ [] | false ↦ h ∷ belowPivot n q hs ] in
-        below ++ q ∷ drop (length below) (h ∷ hs) ≡ elim t [ true ↦ q ∷ h ∷ hs | false ↦ h ∷ insertByPivot n q hs ]
-    by true rest = refl
+    by : (t : Bool) → carriedThrough n (pivot n q) false q hs ≡ insertByPivot n q hs
+        → let step : Passed =
+        cond t (record { here = q; carried = h; placed = true }) (record { here = h; carried = q; placed = false }) in
+        step .here ∷ carriedThrough n (pivot n q) (step .placed) (step .carried) hs
+        ≡ elim t [ true ↦ q ∷ h ∷ hs | false ↦ h ∷ insertByPivot n q hs ]
+    by true rest = ap (λ l. q ∷ l) (carried-behind n (pivot n q) h hs)
     by false rest = ap (λ l. h ∷ l) rest
 
-pub length-below : (n : ℕ) (q : Pauli) (hs : List Pauli) → length (belowPivot n q hs) ≤ length hs
-unfolding belowPivot
-length-below n q [] = omega arith
-length-below n q (h ∷ hs) = by (ltb (pivot n q) (pivot n h)) (length-below n q hs)
-  where
-    by : (t : Bool) → length (belowPivot n q hs) ≤ length hs
-        → length {A = Pauli} (elim t [ true ↦ [] | false ↦ h ∷ belowPivot n q hs ]) ≤ suc (length hs)
-    by true rest = omega arith
-    by false rest = omega arith
+pub carried-past : (n first : ℕ) (placed : Bool) (P h : Pauli) (hs : List Pauli) {step : Passed}
+    → step ≡ passing n first placed P h
+    → carriedThrough n first placed P (h ∷ hs) ≡ step .here ∷ carriedThrough n first (step .placed) (step .carried) hs
+unfolding carriedThrough
+carried-past n first placed P h hs e =
+    ap (λ step. step .here ∷ carriedThrough n first (step .placed) (step .carried) hs) (sym e)
+
+pub carried-end : (n first : ℕ) (placed : Bool) (P : Pauli) → carriedThrough n first placed P [] ≡ P ∷ []
+unfolding carriedThrough
+carried-end n first placed P = refl

@@ -1,23 +1,30 @@
--- The elimination step: whether a row joins the rows, where it goes among them, and the rows with it.
-use mathlib.Core.Bool.{Bool, true, false, cond, not, _&&_}
-use mathlib.Core.List.{List, [], _∷_}
+-- The elimination step: where a row goes among the rows, whether it joins them, and the rows with it.
+use mathlib.Core.Bool.{Bool, true, false, cond, not, _&&_, _||_}
+use mathlib.Core.List.{map}
 use Prim.Native.Nat.{ℕ}
 use lib.Dec.{ltb}
 use Rattle.pauli.specs.declared.Pauli.{Pauli}
+use Rattle.pauli.specs.Product.{identity, modulo4, sameMasks}
 use Rattle.code_record.specs.Record.{rowRoom}
-use Rattle.stabilizer.specs.Canonical.{pivot, reducesToIdentity, added}
+use Rattle.stabilizer.specs.Canonical.{pivot, cleared, insertByPivot}
 use Rattle.reduced_rows.specs.declared.ReducedRows.{ReducedRows}
 use Rattle.reduced_rows.specs.Rows.{rowsIn, reducedOf}
+use Rattle.elimination_step.specs.declared.Passed.{Passed}
 
--- The rows in front of the first one whose pivot comes behind q's.
-unfoldable pub belowPivot : ℕ → Pauli → List Pauli → List Pauli
-belowPivot n q [] = []
-belowPivot n q (h ∷ hs) = elim (ltb (pivot n q) (pivot n h)) [ true ↦ [] | false ↦ h ∷ belowPivot n q hs ]
+-- The row h, past which a row is carried: it gives way once the new row is placed, and where its pivot is the first
+-- that comes behind that of the new row.
+unfoldable pub passing : ℕ → ℕ → Bool → Pauli → Pauli → Passed
+passing n first placed P h =
+    cond (placed || ltb first (pivot n h)) (record { here = P; carried = h; placed = true })
+    (record { here = h; carried = P; placed = false })
 
--- Whether a row joins the rows: there is room for one more, and it is independent of them.
+-- Whether what the rows leave of a row joins them: there is room for one more, and it is more than a phase.
 unfoldable pub joins : ReducedRows → Pauli → Bool
-joins hs P = ltb (hs .count) rowRoom && not (reducesToIdentity (hs .n) (rowsIn hs) P)
+joins hs Q = ltb (hs .count) rowRoom && not (sameMasks Q identity)
 
--- The elimination step. Where the row does not join them, the rows stay as they were.
-unfoldable pub addition : ReducedRows → Pauli → ReducedRows
-addition hs P = cond (joins hs P) (reducedOf (hs .n) (added (hs .n) (rowsIn hs) P)) hs
+-- The elimination step: what is left, its phase 0 to 3, in its place among the rows, which are cleared by it. Where it
+-- does not join them, they stay as they were.
+unfoldable pub joined : ReducedRows → Pauli → ReducedRows
+joined hs Q =
+    let R = modulo4 Q in
+    cond (joins hs Q) (reducedOf (hs .n) (insertByPivot (hs .n) R (map (cleared (hs .n) R) (rowsIn hs)))) hs

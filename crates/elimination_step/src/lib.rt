@@ -1,4 +1,4 @@
-// The elimination step: rows in reduced echelon form, with one row more.
+// The elimination step: rows in reduced echelon form, with what they leave of one row more.
 use code_record::ROW_ROOM;
 use columns::cleared;
 use columns::is_phase;
@@ -12,28 +12,40 @@ ghost use Rattle.pauli.specs.Product.{modulo4};
 ghost use Rattle.code_record.specs.Record.{rowRoom};
 ghost use Rattle.stabilizer.specs.Canonical.{cleared, insertByPivot};
 ghost use Rattle.reduced_rows.specs.Rows.{rowsIn, reducedOf};
-ghost use Rattle.elimination_step.specs.Step.{belowPivot, addition};
+ghost use Rattle.elimination_step.specs.Step.{passing, joined};
 
-// The rows whose first one comes before q's, with their ones in the column of q's taken away.
-fn below(hs: ReducedRows, q: Pauli) -> ReducedRows
-    requires { ⌜ hs .count < rowRoom ⌝ }
-    ensures { λ r. ⌜ r ≡ reducedOf (hs .n) (belowPivot (hs .n) q (map (cleared (hs .n) q) (rowsIn hs))) ⌝ }
+// A place of the rows once a row was carried past it: the row that now stands here, and the one that is carried on to
+// the next place. Where the new row is placed, it is each time the row that gave way.
+struct Passed {
+    here: Pauli,
+    carried: Pauli,
+    placed: bool,
+}
+
+// The row h is passed. The new row, whose first one is in the column `first`, is placed before the first row whose own
+// one comes behind it.
+fn pass(n: u32, first: usize, placed: bool, carried: Pauli, h: Pauli) -> Passed
+    ensures { λ r. ⌜ r ≡ passing n first placed carried h ⌝ }
 {
-    let n = hs.n;
-    let count = hs.count;
-    let first = pivot(n, q);
-    let mut passed = ReducedRows::empty(n);
-    let mut place: usize = 0;
-    while place < count {
-        let h = cleared(n, q, hs.rows[place]);
-        if first < pivot(n, h) {
-            return passed;
-        }
-        passed.rows[place] = h;
-        place += 1;
-        passed.count = place;
+    if placed {
+        return Passed {
+            here: carried,
+            carried: h,
+            placed: true,
+        };
     }
-    passed
+    if first < pivot(n, h) {
+        return Passed {
+            here: carried,
+            carried: h,
+            placed: true,
+        };
+    }
+    Passed {
+        here: h,
+        carried,
+        placed: false,
+    }
 }
 
 // The rows with their ones in the column of q's first one taken away, and q in its place among them.
@@ -43,16 +55,22 @@ fn insert(hs: ReducedRows, q: Pauli) -> ReducedRows
 {
     let n = hs.n;
     let count = hs.count;
-    let mut longer = below(hs, q);
-    let mut place = longer.count;
-    longer.rows[place] = q;
-    longer.count = place + 1;
+    let first = pivot(n, q);
+    let mut longer = ReducedRows::empty(n);
+    let mut carried = q;
+    let mut placed = false;
+    let mut place: usize = 0;
     while place < count {
-        let h = cleared(n, q, hs.rows[place]);
+        let step = pass(n, first, placed, carried, cleared(n, q, hs.rows[place]));
+        let here = step.here;
+        longer.rows[place] = here;
+        carried = step.carried;
+        placed = step.placed;
         place += 1;
-        longer.rows[place] = h;
-        longer.count = place + 1;
+        longer.count = place;
     }
+    longer.rows[place] = carried;
+    longer.count = place + 1;
     longer
 }
 
@@ -67,12 +85,11 @@ fn modulo4(p: Pauli) -> Pauli
     }
 }
 
-// A row is reduced, and joins the rows where something other than a phase is left of it and the array has room.
-// Otherwise they stay as they were.
-pub fn add(hs: ReducedRows, p: Pauli) -> ReducedRows
-    ensures { λ r. ⌜ r ≡ addition hs p ⌝ }
+// What the rows leave of a row joins them where it is more than a phase and the array has room. Otherwise they stay as
+// they were.
+pub fn join(hs: ReducedRows, left: Pauli) -> ReducedRows
+    ensures { λ r. ⌜ r ≡ joined hs left ⌝ }
 {
-    let left = hs.reduce(p);
     if hs.count < ROW_ROOM && !is_phase(left) {
         return insert(hs, modulo4(left));
     }

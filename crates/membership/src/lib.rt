@@ -3,6 +3,7 @@ use code_record::Code;
 use letters::Sign;
 use pauli::Pauli;
 use reduced_rows::Kind;
+use reduced_rows::kind_of;
 use refusals::Checked;
 use refusals::Refusal;
 ghost use mathlib.Core.Path.{_≡_};
@@ -33,7 +34,9 @@ pub fn membership_of(code: Code, p: Pauli) -> Membership
     let e = elimination::eliminate(code);
     let answer = e.answer;
     match answer {
-        Checked::Passed => member_kind(e.reduced.kind_of(Pauli::signed(Sign::Plus, p.a, p.b))),
+        Checked::Passed => {
+            member_kind(kind_of(e.reduced.reduce(Pauli::signed(Sign::Plus, p.a, p.b))))
+        },
         Checked::Refused(refusal) => Membership::Refused(refusal),
     }
 }

@@ -35,7 +35,7 @@ impl Pauli {
     pub fn symplectic(self, q: Pauli) -> u32
         ensures { λ r. ⌜ r ≡ symplectic self q ⌝ }
     {
-        (u32::count_ones(self.a & q.b) + u32::count_ones(q.a & self.b)) % 2
+        u32::count_ones((self.a & q.b) ^ (q.a & self.b)) % 2
     }
 
     pub fn commutes(self, q: Pauli) -> bool

@@ -56,17 +56,10 @@ impl ReducedRows {
     {
         is_phase(self.reduce(p))
     }
-
-    // What it is to the rows.
-    pub fn kind_of(self, p: Pauli) -> Kind
-        ensures { λ r. ⌜ r ≡ kindOf (reduced (self .n) (rowsIn self) p) ⌝ }
-    {
-        kind_of(self.reduce(p))
-    }
 }
 
-// What a row is, from what is left of it.
-fn kind_of(left: Pauli) -> Kind
+// What a row is to the rows, from what they leave of it.
+pub fn kind_of(left: Pauli) -> Kind
     ensures { λ r. ⌜ r ≡ kindOf left ⌝ }
 {
     if !is_phase(left) {

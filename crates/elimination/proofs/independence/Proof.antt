@@ -74,7 +74,7 @@ module _ (c : tie.After-generators-at Inv-loop μ-loop) where
 -- ---- behind a row's kind
 
 abbrev at : tie.After-kind-of Inv-loop μ-loop → tie.At-loop Inv-loop μ-loop
-at c = c .before .before .before
+at c = c .before .before .before .before
 
 module _ (c : tie.After-kind-of Inv-loop μ-loop) where
   abbrev s : tie.After-generators-at Inv-loop μ-loop
@@ -92,7 +92,7 @@ module _ (c : tie.After-kind-of Inv-loop μ-loop) where
   unfolding eliminated
   faulty e f r =
       r ∙ answered s (stepped-fault (code s .n) (line s) (code s .g) (code s .r) (at c .loop .inv .1) (room s .0)
-      (are-rows s) (commuting s) (c .before .before .loop-test .taken) _ refl (c .kind-of .ensures) e f)
+      (are-rows s) (commuting s) (c .before .before .before .loop-test .taken) _ refl (c .before .reduce .ensures) (c .kind-of .ensures) e f)
 
 -- ---- the needs
 
@@ -102,11 +102,11 @@ cast-empty c = let few = room c in record { fits = omega (arith, few) }
 loop-holds : tie.Need-loop-holds Inv-loop μ-loop
 loop-holds c = (search needs, stepped-none _ _ _ _ _ (c .empty .ensures))
 
-mul-p : tie.Need-mul-p Inv-loop μ-loop
-mul-p c = let few = room (start (c .before)) in search needs
+mul-reduce : tie.Need-mul-reduce Inv-loop μ-loop
+mul-reduce c = let few = room (start (c .before)) in search needs
 
-element-copy-out-p : tie.Need-element-copy-out-p Inv-loop μ-loop
-element-copy-out-p c = let few = room (start (c .before)) in omega (arith, few, c .loop-test .taken)
+element-copy-out-reduce : tie.Need-element-copy-out-reduce Inv-loop μ-loop
+element-copy-out-reduce c = let few = room (start (c .before)) in omega (arith, few, c .loop-test .taken)
 
 returns : tie.Need-returns Inv-loop μ-loop
 returns c = let told = c .before in
@@ -123,8 +123,8 @@ loop-again c =
     let code = code (s here) in (
       search needs,
       stepped-more (code .n) (line (s here)) (code .g) (code .r) (at here .loop .inv .1) (room (s here) .0)
-          (are-rows (s here)) (commuting (s here)) (here .before .before .loop-test .taken) _ refl
-          (here .kind-of .ensures) (omega (arith, room (s here) .1)) (told .enum-told .given .1) (c .add .ensures),
+          (are-rows (s here)) (commuting (s here)) (here .before .before .before .loop-test .taken) _ refl
+          (here .before .reduce .ensures) (here .kind-of .ensures) (omega (arith, room (s here) .1)) (told .enum-told .given .1) (c .join .ensures),
     )
 
 returns-3 : tie.Need-returns-3 Inv-loop μ-loop
@@ -148,8 +148,9 @@ independence-spec =
     cast-empty
     (λ c κs. search needs)
     loop-holds
-    mul-p
-    element-copy-out-p
+    mul-reduce
+    element-copy-out-reduce
+    (λ c κs. search needs)
     (λ c κs. search needs)
     (λ c. search needs)
     (λ c. search needs)

@@ -1,6 +1,7 @@
 -- Membership with its sign: the checks first, then the sign that the canonical generators tell of the row + with P's
 -- masks.
-use mathlib.Core.Path.{_∙_}
+use mathlib.Core.Path.{ap, _∙_}
+use Rattle.reduced_rows.specs.RowKinds.{kindOf}
 use Rattle.membership.proofs.Signs.{member-refused, member-told}
 use borrow.Author.Needs.{needs}
 use Rattle.membership.proofs.membership_of.Statement.{statement}
@@ -10,13 +11,14 @@ use Rattle.membership.proofs.membership_of.Tie as tie
 returns : tie.Need-returns
 returns c =
     let told = c .before in
-    let row = told .before in
+    let left = told .before in
+    let row = left .before in
     let passed = row .before in
     let checks = passed .before .before in
     let a = checks .before .args in
     c .member-kind .ensures
     ∙ member-told (a .code) (a .p) (checks .eliminate .ensures) (passed .enum-told .given .1) (row .signed .ensures)
-    (told .kind-of .ensures)
+    (told .kind-of .ensures ∙ ap kindOf (left .reduce .ensures))
 
 returns-2 : tie.Need-returns-2
 returns-2 c =
@@ -30,6 +32,7 @@ membership-of-spec =
     (tie.spec
     (λ c κs. search needs)
     (λ c. search needs)
+    (λ c κs. search needs)
     (λ c κs. search needs)
     (λ c κs. search needs)
     (λ c κs. search needs)
