@@ -174,9 +174,10 @@ reinoften_answer reinoften_decode(reinoften_code code, const uint8_t *syndrome, 
 /*
  * Decodes a syndrome that is given by value: the first generator's bit is the lowest, and bits from r on are 0.
  *   0          `correction` is the correction, with sign +.
- *   255        there is no correction; `correction` is +I and says nothing.
+ *   255        there is no correction.
  *   15         refused.
  *   16         refused: a bit from r on is 1.
+ * Beside 255, 15 and 16 `correction` is +I, and says nothing.
  */
 reinoften_correction reinoften_correct(reinoften_code code, uint32_t syndrome);
 
