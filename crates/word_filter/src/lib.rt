@@ -30,9 +30,8 @@ pub fn first_places(words: [u32; WORD_ROOM]) -> [u8; SLOTS]
     places
 }
 
-// Whether a string may end with so many letters, where the places of their words are below `end` and the wanted word is
-// theirs. No letter has the word 0. One letter has a word with the slot of the wanted one. Of more letters nothing is
-// known.
+// Whether so many letters, whose words have places below `end`, may have the wanted word. Without a letter the word is
+// 0, and one letter has a word with the slot of the wanted one. Of more letters nothing is known.
 pub fn may_end(places: &[u8; SLOTS], letters: usize, end: u8, want: u32) -> bool
     ensures { λ r. ⌜ r ≡ mayEnd (now (places .entry)) letters end want ⌝ }
 {
