@@ -75,6 +75,32 @@ pub fn single(n: usize, qubit: usize, letter: Letter) -> Row {
     Row { minus, letters }
 }
 
+/// The code with more qubits, up to n of them, each with a generator of its own. Its distance stays.
+pub fn with_qubits(sheet: &Sheet, n: usize) -> Sheet {
+    let wider = |letters: &[Letter]| {
+        let mut letters = letters.to_vec();
+        letters.resize(n, Letter::I);
+        letters
+    };
+    let rows = |rows: &[Row]| -> Vec<Row> {
+        let row = |row: &Row| Row {
+            letters: wider(&row.letters),
+            ..*row
+        };
+        rows.iter().map(row).collect()
+    };
+    let mut generators = rows(&sheet.generators);
+    generators.extend((sheet.n..n).map(|qubit| single(n, qubit, Letter::X)));
+    Sheet {
+        n,
+        d: sheet.d,
+        generators,
+        xs: rows(&sheet.xs),
+        zs: rows(&sheet.zs),
+        claim: wider(&sheet.claim),
+    }
+}
+
 /// The product with sign +.
 pub fn times(left: &Row, right: &Row) -> Row {
     product(left.letters.len(), [left, right]).plus_row()

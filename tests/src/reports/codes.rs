@@ -1,7 +1,7 @@
 //! Codes that are admitted, and lines to stand behind their sheets.
 
 use super::Input;
-use crate::codes::{any_code, single, string_of_weight, with_distance_at_most};
+use crate::codes::{any_code, string_of_weight, with_distance_at_most, with_qubits};
 use crate::codes::{disguised, MOST_DISTANCE};
 use crate::random::Random;
 use crate::record::Record;
@@ -67,32 +67,6 @@ fn longest_distance(n: usize, coded: usize, strings: u64) -> usize {
     let is_cheap =
         |&d: &usize| string_count(coded, d) <= strings && string_count(n, d - 1) <= strings;
     { (1..=MOST_DISTANCE).rev() }.find(is_cheap).unwrap_or(1)
-}
-
-/// The code with more qubits, up to n of them, each with a generator of its own. Its distance stays.
-fn with_qubits(sheet: &Sheet, n: usize) -> Sheet {
-    let wider = |letters: &[Letter]| {
-        let mut letters = letters.to_vec();
-        letters.resize(n, Letter::I);
-        letters
-    };
-    let rows = |rows: &[Row]| -> Vec<Row> {
-        let row = |row: &Row| Row {
-            letters: wider(&row.letters),
-            ..*row
-        };
-        rows.iter().map(row).collect()
-    };
-    let mut generators = rows(&sheet.generators);
-    generators.extend((sheet.n..n).map(|qubit| single(n, qubit, Letter::X)));
-    Sheet {
-        n,
-        d: sheet.d,
-        generators,
-        xs: rows(&sheet.xs),
-        zs: rows(&sheet.zs),
-        claim: wider(&sheet.claim),
-    }
 }
 
 /// A published code in other clothes.

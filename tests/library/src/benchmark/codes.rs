@@ -2,7 +2,7 @@
 
 use crate::plain::{self, Table};
 use independent::classical::blocks;
-use independent::codes::{claiming, completed, single, string_of_weight, MOST_DISTANCE};
+use independent::codes::{claiming, completed, string_of_weight, with_qubits, MOST_DISTANCE};
 use independent::published::golay_and_a_qubit;
 use independent::random::Random;
 use independent::sheet::{self, letters_text, line, Letter, Row, Sheet};
@@ -163,32 +163,6 @@ fn claimed(sheet: Sheet) -> Sheet {
 fn read(text: &str) -> Sheet {
     let (sheet, _) = sheet::read_lines(text.as_bytes()).expect("a sheet");
     sheet
-}
-
-/// With as many qubits as n, of which the added ones have X for a generator. The distance stays.
-pub fn with_qubits(sheet: &Sheet, n: usize) -> Sheet {
-    let longer = |letters: &[Letter]| {
-        let mut letters = letters.to_vec();
-        letters.resize(n, Letter::I);
-        letters
-    };
-    let rows = |rows: &[Row]| -> Vec<Row> {
-        let row = |row: &Row| Row {
-            minus: row.minus,
-            letters: longer(&row.letters),
-        };
-        rows.iter().map(row).collect()
-    };
-    let mut generators = rows(&sheet.generators);
-    generators.extend((sheet.n..n).map(|qubit| single(n, qubit, Letter::X)));
-    Sheet {
-        n,
-        d: sheet.d,
-        generators,
-        xs: rows(&sheet.xs),
-        zs: rows(&sheet.zs),
-        claim: longer(&sheet.claim),
-    }
 }
 
 #[cfg(test)]

@@ -1,8 +1,9 @@
 //! How the times grow with the number of qubits, for each t.
 
-use super::codes::{cyclic_13, cyclic_17, five, with_qubits, Known};
+use super::codes::{cyclic_13, cyclic_17, five, Known};
 use super::timing::{Times, LIBRARY};
 use super::{markdown, questions};
+use independent::codes::with_qubits;
 
 const QUBITS: [usize; 10] = [5, 7, 9, 11, 13, 16, 17, 20, 22, 24];
 

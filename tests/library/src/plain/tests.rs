@@ -143,13 +143,17 @@ fn syndromes_are_decoded() {
             assert_eq!(decode(&code(&record), &characters, &mut out), expected);
             assert_eq!(out, expected_out);
         }
-        let outcome = match expected {
-            Ok(found) => usize::from(found.is_some()),
-            Err(refusal) => refusal.number as usize - 13,
-        };
-        outcomes[outcome] += 1;
+        outcomes[outcome(&expected)] += 1;
     }
     assert!(outcomes.iter().all(|&count| count > 20), "{outcomes:?}");
+}
+
+/// `none`, a correction, or a refusal from 15 on, by a number from 0 on.
+fn outcome<Found>(decoded: &Result<Option<Found>, Refusal>) -> usize {
+    match decoded {
+        Ok(found) => usize::from(found.is_some()),
+        Err(refusal) => refusal.number as usize - 13,
+    }
 }
 
 #[test]
@@ -168,11 +172,7 @@ fn syndromes_are_decoded_by_value() {
         for correct in [correct::<Scan>, correct::<Table>] {
             assert_eq!(correct(&code(&record), mask), expected);
         }
-        let outcome = match expected {
-            Ok(found) => usize::from(found.is_some()),
-            Err(refusal) => refusal.number as usize - 13,
-        };
-        outcomes[outcome] += 1;
+        outcomes[outcome(&expected)] += 1;
     }
     assert!(outcomes.iter().all(|&count| count > 20), "{outcomes:?}");
 }
