@@ -1,5 +1,5 @@
--- An error on at most t qubits is corrected by the call by value, `CorrectedByValue`: its syndrome as a mask has the bits
--- of its syndrome, and the correction for these is that of the third guarantee.
+-- An error on at most t qubits is corrected by the call by value, `CorrectedByValue`: its syndrome as a mask has the
+-- bits of its syndrome, and the correction for these is that of the third guarantee.
 use mathlib.Core.Bool.{Bool}
 use mathlib.Core.List.{List}
 use mathlib.Core.Option.{none}
@@ -52,7 +52,8 @@ corrected-by-value s E h =
       letters = e .letters;
       found = e .found;
       answered = sym (no-fault (c s E h) _ within (below s E h))
-          ∙ ap (λ bits. maskAnswer none (correction (c s E h) bits)) (same-bits s E h) ∙ ap (maskAnswer none) (e .found);
+          ∙ ap (λ bits. maskAnswer none (correction (c s E h) bits)) (same-bits s E h)
+          ∙ ap (maskAnswer none) (e .found);
       light = e .light;
       inGroup = e .inGroup;
     }

@@ -1,4 +1,5 @@
--- The third guarantee of the calls for programs in C, from that of the calls which they make: a number tells the answer.
+-- The third guarantee of the calls for programs in C, from that of the calls which they make: a number tells the
+-- answer.
 use mathlib.Core.List.{List}
 use mathlib.Core.Option.{Option·some-injective}
 use mathlib.Core.Path.{_≡_, refl, ap, sym, subst, _∙_}

@@ -77,8 +77,8 @@ pub record RefutedInC (s : List ℕ) : Type 0 where
   pub qubits : readCall s .errors .n ≡ read .code .n
   pub refutes : Refutes (read .code) (readCall s .errors .e) (readCall s .errors .f)
 
--- RULES, "Guarantees": the third one. Errors are corrected; number 14 has two errors beside it that refute the distance.
--- A sheet that is admissible but for distance has number 14 where two such errors exist, and else number 0.
+-- RULES, "Guarantees": the third one. Errors are corrected; number 14 has two errors beside it that refute the
+-- distance. A sheet that is admissible but for distance has number 14 where two such errors exist, and else number 0.
 pub record GuaranteeInC : Type 0 where
   pub corrected : (s : List ℕ) (E : Pauli) → Struck s E → CorrectsInC (readCall s .code) E
   pub shown : (s : List ℕ) → readCall s .answer .number ≡ 14 → RefutedInC s
