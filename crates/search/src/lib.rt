@@ -5,7 +5,6 @@ use letter_sums::Found;
 use letter_sums::LetterWords;
 use letter_sums::QUBIT_ROOM;
 use letters::Letter;
-use word_filter::SLOTS;
 use word_filter::first_places;
 use word_filter::may_end;
 ghost use mathlib.Core.List.{List};
@@ -13,7 +12,7 @@ ghost use mathlib.Core.Path.{_≡_};
 ghost use Prim.Native.Nat.{ℕ, _+_, _*_, _^_, min, _≤_, _<_};
 ghost use lib.ListN.{length};
 ghost use Rattle.letters.specs.Letters.{struckLetter};
-ghost use Rattle.word_filter.specs.Filter.{firstPlaces};
+ghost use Rattle.word_filter.specs.Filter.{NoneBefore};
 ghost use Rattle.letter_sums.specs.Sums.{placedAt, foundAs, earliestOf, earliestUpTo, earliestBy};
 
 // The masks of `gap` letters I, then the letter numbered 0, 1, 2 (X, Y, Z), then `right` letters that have the masks a
@@ -46,7 +45,7 @@ fn identity(want: u32, shun: u64) -> Found
 // The earliest string of a weight on the last `qubits` qubits. The fewer qubits are to the right of the first
 // letter that is not I, the earlier is the string.
 fn completion(
-    places: &[u8; SLOTS],
+    places: &[u8],
     first: &[u32],
     second: &[u64],
     qubits: usize,
@@ -57,7 +56,7 @@ fn completion(
     requires { ⌜ qubits ≤ 32 ⌝ }
     requires { ⌜ 3 * qubits ≤ length (now first) ⌝ }
     requires { ⌜ 3 * qubits ≤ length (now second) ⌝ }
-    requires { ⌜ now places ≡ firstPlaces (now first) ⌝ }
+    requires { ⌜ NoneBefore (now places) (now first) ⌝ }
     ensures { λ r. ⌜ r ≡ foundAs (earliestOf (now (first .entry)) (now (second .entry)) qubits weight want shun) ⌝ }
 {
     if weight == 0 {
@@ -96,23 +95,23 @@ fn smaller(m: usize, n: usize) -> usize
     if m < n { m } else { n }
 }
 
-// The earliest string of weight at most `most`.
+// The earliest string of weight at most t. No string is heavier than it has letters.
 fn lightest(
-    places: &[u8; SLOTS],
+    places: &[u8],
     first: &[u32],
     second: &[u64],
     qubits: usize,
-    most: usize,
+    t: usize,
     want: u32,
     shun: u64,
 ) -> Found
-    requires { ⌜ most ≤ qubits ⌝ }
     requires { ⌜ qubits ≤ 32 ⌝ }
     requires { ⌜ 3 * qubits ≤ length (now first) ⌝ }
     requires { ⌜ 3 * qubits ≤ length (now second) ⌝ }
-    requires { ⌜ now places ≡ firstPlaces (now first) ⌝ }
-    ensures { λ r. ⌜ r ≡ foundAs (earliestUpTo (now (first .entry)) (now (second .entry)) qubits most want shun) ⌝ }
+    requires { ⌜ NoneBefore (now places) (now first) ⌝ }
+    ensures { λ r. ⌜ r ≡ foundAs (earliestUpTo (now (first .entry)) (now (second .entry)) qubits t want shun) ⌝ }
 {
+    let most = smaller(t, qubits);
     'search: loop {
         for weight in 0..most + 1 {
             let found = completion(places, first, second, qubits, weight, want, shun);
@@ -124,21 +123,18 @@ fn lightest(
     }
 }
 
-// The earliest string of weight at most t. No string is heavier than it has letters.
+// The earliest string of weight at most t on the qubits that have words. The table is asked for weights from 2 on, and
+// below them none is made.
 pub fn earliest(words: LetterWords, t: usize, want: u32, shun: u64) -> Found
     ensures { λ r. ⌜ r ≡ earliestBy words t want shun ⌝ }
 {
     let first = words.first;
     let second = words.second;
     let qubits = smaller(words.qubits, QUBIT_ROOM);
+    if t < 2 {
+        let none = [0u8; 0];
+        return lightest(&none, &first, &second, qubits, t, want, shun);
+    }
     let places = first_places(first);
-    lightest(
-        &places,
-        &first,
-        &second,
-        qubits,
-        smaller(t, qubits),
-        want,
-        shun,
-    )
+    lightest(&places, &first, &second, qubits, t, want, shun)
 }

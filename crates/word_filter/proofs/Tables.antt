@@ -13,7 +13,7 @@ use lib.ListN.{length, drop, getD, set, length-set, length-replicate, drop-of-le
 use lib.Seq.{drop-cons, getD-set-same, getD-set-other}
 use Rattle.letter_sums.specs.Sums.{earliestOf}
 use Rattle.letter_sums.proofs.Words.{identity-unwanted, none-single}
-use Rattle.word_filter.specs.Filter.{slotOf, noPlaces, placesFrom, firstPlaces, mayEnd}
+use Rattle.word_filter.specs.Filter.{slotOf, noPlaces, placesFrom, firstPlaces, NoneBefore, mayEnd}
 
 -- ---- how the table grows
 
@@ -62,16 +62,34 @@ at-most place (w ∷ words) (suc j) inside =
           )
     ]
 
+pub all-told : (words : List ℕ) → NoneBefore (firstPlaces words) words
+unfolding firstPlaces NoneBefore
+all-told words j inside = omega (arith, at-most 0 words j inside)
+
+-- Without slots nothing is told.
+pub none-told : (words : List ℕ) → NoneBefore [] words
+unfolding NoneBefore
+none-told words j inside = omega arith
+
 -- So a word whose slot has no place before an end is not before it.
-not-before : (words : List ℕ) (end want : ℕ) → ltb (getD (firstPlaces words) (slotOf want) 0) end ≡ false
+not-before : (places words : List ℕ) (end want : ℕ) → NoneBefore places words
+    → ltb (getD places (slotOf want) 0) end ≡ false
     → (j : ℕ) → j < end → j < length words → getD words j 0 ≡ want → ⊥
-unfolding firstPlaces
-not-before words end want e j before inside found =
-    let early : getD (placesFrom 0 words) (slotOf want) 0 ≤ 0 + j =
-    subst (λ (w : ℕ). getD (placesFrom 0 words) (slotOf w) 0 ≤ 0 + j) found (at-most 0 words j inside) in
-    omega (arith, ltb-false (getD (placesFrom 0 words) (slotOf want) 0) end e)
+unfolding NoneBefore
+not-before places words end want told e j before inside found =
+    let early : getD places (slotOf want) 0 ≤ j =
+    subst (λ (w : ℕ). getD places (slotOf w) 0 ≤ j) found (told j inside) in
+    omega (arith, ltb-false (getD places (slotOf want) 0) end e)
 
 -- ---- strings
+
+-- With one letter the place at the slot of the wanted word decides.
+pub one-may-end : (places : List ℕ) (letters end want at place : ℕ) → letters ≡ 1 → at ≡ slotOf want
+    → place ≡ getD places at 0 → ltb place end ≡ mayEnd places letters end want
+unfolding mayEnd
+one-may-end places letters end want at place one own stands =
+    ap (λ (k : ℕ). ltb k end) (stands ∙ ap (λ (slot : ℕ). getD places slot 0) own)
+    ∙ ap (λ (k : ℕ). mayEnd places k end want) (sym one)
 
 -- With two letters or more nothing is ruled out.
 pub many-may-end : (places : List ℕ) (letters end want : ℕ) → (letters ≡ 0 → ⊥) → (letters ≡ 1 → ⊥)
@@ -83,13 +101,12 @@ many-may-end places (suc (suc letters)) end want some more = refl
 
 -- A string on the last n qubits is not found where it is ruled out.
 pub none-ended : (places words second : List ℕ) (n letters end want shun : ℕ)
-    → places ≡ firstPlaces words → 3 * n ≤ length words → 3 * n ≤ end
+    → NoneBefore places words → 3 * n ≤ length words → 3 * n ≤ end
     → mayEnd places letters end want ≡ false → earliestOf words second n letters want shun ≡ none
 unfolding mayEnd
-none-ended places words second n zero end want shun table room behind e =
+none-ended places words second n zero end want shun told room behind e =
     identity-unwanted words second n want shun (eqb-false want 0 e)
-none-ended places words second n (suc zero) end want shun table room behind e =
+none-ended places words second n (suc zero) end want shun told room behind e =
     none-single words second n want shun λ j l.
-    not-before words end want (ap (λ (ps : List ℕ). ltb (getD ps (slotOf want) 0) end) (sym table) ∙ e) j
-    (omega arith) (omega arith)
-none-ended places words second n (suc (suc letters)) end want shun table room behind e = absurd (true≢false e)
+    not-before places words end want told e j (omega arith) (omega arith)
+none-ended places words second n (suc (suc letters)) end want shun told room behind e = absurd (true≢false e)

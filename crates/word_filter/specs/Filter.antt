@@ -1,10 +1,10 @@
 -- A filter of words: the first place of a word for each slot.
 use mathlib.Core.Bool.{Bool, true}
 use mathlib.Core.List.{List, [], _∷_}
-use Prim.Native.Nat.{ℕ, zero, suc, _/_, _%_}
+use Prim.Native.Nat.{ℕ, zero, suc, _/_, _%_, _<_, _≤_}
 use lib.Bits.{bitXor}
 use lib.Dec.{eqb, ltb}
-use lib.ListN.{getD, set, replicate}
+use lib.ListN.{length, getD, set, replicate}
 
 -- The slot of a word, below 4,096.
 abbrev pub slotOf : ℕ → ℕ
@@ -21,6 +21,11 @@ placesFrom place (w ∷ words) = set (placesFrom (suc place) words) (slotOf w) p
 
 unfoldable pub firstPlaces : List ℕ → List ℕ
 firstPlaces words = placesFrom 0 words
+
+-- A table that may be shorter tells less, but nothing wrong: no word is before the place at its slot. Behind the table's
+-- end that place is 0.
+unfoldable pub NoneBefore : List ℕ → List ℕ → Type 0
+NoneBefore places words = (j : ℕ) → j < length words → getD places (slotOf (getD words j 0)) 0 ≤ j
 
 -- Whether so many letters may have the wanted word, where their own words have places below `end`. Without a letter the
 -- word is 0, and one letter has a word with the slot of the wanted one.

@@ -31,8 +31,9 @@ pub fn first_places(words: [u32; WORD_ROOM]) -> [u8; SLOTS]
 }
 
 // Whether so many letters, whose words have places below `end`, may have the wanted word. Without a letter the word is
-// 0, and one letter has a word with the slot of the wanted one. Of more letters nothing is known.
-pub fn may_end(places: &[u8; SLOTS], letters: usize, end: u8, want: u32) -> bool
+// 0, and one letter has a word with the slot of the wanted one. Of more letters nothing is known. A table may be short:
+// at a slot behind its end it rules nothing out, as with the place 0.
+pub fn may_end(places: &[u8], letters: usize, end: u8, want: u32) -> bool
     ensures { λ r. ⌜ r ≡ mayEnd (now (places .entry)) letters end want ⌝ }
 {
     if letters == 0 {
@@ -40,7 +41,10 @@ pub fn may_end(places: &[u8; SLOTS], letters: usize, end: u8, want: u32) -> bool
     }
     if letters == 1 {
         let at = slot(want);
-        return places[at] < end;
+        if at < places.len() {
+            return places[at] < end;
+        }
+        return 0 < end;
     }
     true
 }

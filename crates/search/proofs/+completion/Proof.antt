@@ -79,7 +79,7 @@ pub +completion-spec : {M : Type 1} → statement M
     (λ c κs. search needs)  -- identity-requires
     -- returns
     (λ c.
-    let a = c .before .before .before .before .args in
+    let a = c .before .before .before .before .before .args in
     subst (λ (w : ℕ). c .identity .result
     ≡ foundAs (earliestOf (a .first .now) (a .second .now) (a .qubits) w (a .want) (a .shun)))
     (sym (c .before .if1 .taken)) (c .identity .ensures (a .first .now) (a .second .now) (a .qubits)))
@@ -87,7 +87,7 @@ pub +completion-spec : {M : Type 1} → statement M
     (λ c. search needs)  -- search-holds
     -- loop-holds
     (λ c.
-    let a = c .before .before .before .before .args in
+    let a = c .before .before .before .before .before .args in
     none-short (a .first .now) (a .second .now) (a .weight - 1) (a .weight) (a .want) (a .shun) (omega arith))
     (λ c. (omega arith, λ j h. absurd (omega arith)))  -- loop2-holds
     (λ c. search needs)  -- mul-place
@@ -100,7 +100,7 @@ pub +completion-spec : {M : Type 1} → statement M
     (λ c. search needs)  -- shared-slice-read-completion
     -- completion-requires
     (λ c κs.
-    let start = c .before .before .before .before .before .before .before .before .before .before .before .before in
+    let start = c .before .before .before .before .before .before .before .before .before .before .before .before .before in
     (omega arith, (omega arith, (omega arith, (omega arith, start .pre .1 .1 .1 .1)))))
     (λ c. search needs)  -- enum-known-behind
     (λ c. search needs)  -- sub-placed
@@ -109,7 +109,7 @@ pub +completion-spec : {M : Type 1} → statement M
     (λ c κs.
     let call = c .before .before .before in
     let inside = call .before .before .before .before .before .before .before in
-    let few = inside .before .before .before .before .before .before .pre .1 .0 in
+    let few = inside .before .before .before .before .before .before .before .pre .1 .0 in
     let told = found-some _ _ _ (sym (c .before .behind .given .1) ∙ call .completion .ensures) in
     (omega (arith, few, inside .loop-test .taken), masks-lt _ _ (inside .before .loop .right) _ _ _ _ _ told))
     (λ c. search needs)  -- enum-told
@@ -119,7 +119,7 @@ pub +completion-spec : {M : Type 1} → statement M
     (λ c.
     let turn = c .before .before .before .before in
     let at = turn .before .before in
-    let start = at .before .before .before .before .before in
+    let start = at .before .before .before .before .before .before in
     let a = start .args in
     let Nothing =
     behind (a .first .now) (a .second .now) (at .loop .right) (a .weight - 1) (a .want) (a .shun) (turn .loop2 .letter)
@@ -142,7 +142,7 @@ pub +completion-spec : {M : Type 1} → statement M
     -- loop-again
     (λ c.
     let at = c .before .before .before in
-    let a = at .before .before .before .before .before .args in
+    let a = at .before .before .before .before .before .before .args in
     none-to-the-right (a .first .now) (a .second .now) (at .loop .right) (a .weight) (a .want) (a .shun)
     (omega arith) (at .loop .inv) λ j h. c .before .loop2 .inv .1 j (omega arith))
     -- returns-2
@@ -152,7 +152,7 @@ pub +completion-spec : {M : Type 1} → statement M
     let inside = call .before .before .before .before .before in
     let turn = inside .before in
     let at = turn .before .before in
-    let start = at .before .before .before .before .before in
+    let start = at .before .before .before .before .before .before in
     let a = start .args in
     let told = found-some _ _ _ (sym (found .behind .given .1) ∙ call .completion .ensures) in
     c .placed .ensures
@@ -164,7 +164,7 @@ pub +completion-spec : {M : Type 1} → statement M
     -- returns-3
     (λ c.
     let at = c .before in
-    let a = at .before .before .before .before .before .args in
+    let a = at .before .before .before .before .before .before .args in
     nothing-found _
     (found-nowhere (a .first .now) (a .second .now) (a .qubits) (a .weight) (a .want) (a .shun) (at .loop .right)
     (omega arith) (omega arith) (at .loop .inv)))
