@@ -22,8 +22,8 @@ placesFrom place (w ∷ words) = set (placesFrom (suc place) words) (slotOf w) p
 unfoldable pub firstPlaces : List ℕ → List ℕ
 firstPlaces words = placesFrom 0 words
 
--- A table that may be shorter tells less, but nothing wrong: no word is before the place at its slot. Behind the table's
--- end that place is 0.
+-- A table that may be shorter tells less, but nothing wrong: no word is before the place at its slot. Behind the
+-- table's end that place is 0.
 unfoldable pub NoneBefore : List ℕ → List ℕ → Type 0
 NoneBefore places words = (j : ℕ) → j < length words → getD places (slotOf (getD words j 0)) 0 ≤ j
 

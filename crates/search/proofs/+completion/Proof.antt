@@ -100,7 +100,8 @@ pub +completion-spec : {M : Type 1} → statement M
     (λ c. search needs)  -- shared-slice-read-completion
     -- completion-requires
     (λ c κs.
-    let start = c .before .before .before .before .before .before .before .before .before .before .before .before .before in
+    let turn = c .before .before .before .before .before .before in
+    let start = turn .before .before .before .before .before .before .before in
     (omega arith, (omega arith, (omega arith, (omega arith, start .pre .1 .1 .1 .1)))))
     (λ c. search needs)  -- enum-known-behind
     (λ c. search needs)  -- sub-placed
