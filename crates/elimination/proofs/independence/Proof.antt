@@ -92,7 +92,8 @@ module _ (c : tie.After-kind-of Inv-loop μ-loop) where
   unfolding eliminated
   faulty e f r =
       r ∙ answered s (stepped-fault (code s .n) (line s) (code s .g) (code s .r) (at c .loop .inv .1) (room s .0)
-      (are-rows s) (commuting s) (c .before .before .before .loop-test .taken) _ refl (c .before .reduce .ensures) (c .kind-of .ensures) e f)
+      (are-rows s) (commuting s) (c .before .before .before .loop-test .taken) _ refl
+      (c .before .reduce .ensures) (c .kind-of .ensures) e f)
 
 -- ---- the needs
 
@@ -124,7 +125,8 @@ loop-again c =
       search needs,
       stepped-more (code .n) (line (s here)) (code .g) (code .r) (at here .loop .inv .1) (room (s here) .0)
           (are-rows (s here)) (commuting (s here)) (here .before .before .before .loop-test .taken) _ refl
-          (here .before .reduce .ensures) (here .kind-of .ensures) (omega (arith, room (s here) .1)) (told .enum-told .given .1) (c .join .ensures),
+          (here .before .reduce .ensures) (here .kind-of .ensures) (omega (arith, room (s here) .1))
+          (told .enum-told .given .1) (c .join .ensures),
     )
 
 returns-3 : tie.Need-returns-3 Inv-loop μ-loop

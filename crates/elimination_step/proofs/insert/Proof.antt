@@ -73,7 +73,8 @@ mul-here : tie.Need-mul-here Inv-loop μ-loop
 mul-here c = let few = start (at (c .before)) .pre in search needs
 
 element-set-from-here : tie.Need-element-set-from-here Inv-loop μ-loop
-element-set-from-here c = omega (arith, start (at (c .before)) .pre, c .before .before .before .before .loop-test .taken)
+element-set-from-here c = let step = c .before in
+    omega (arith, start (at step) .pre, step .before .before .before .loop-test .taken)
 
 loop-again : tie.Need-loop-again Inv-loop μ-loop
 loop-again c =

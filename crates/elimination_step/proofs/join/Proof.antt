@@ -19,7 +19,8 @@ returns c =
     c .insert .ensures
     ∙ ap (λ R. reducedOf (a .hs .n) (insertByPivot (a .hs .n) R (map (cleared (a .hs .n) R) (rowsIn (a .hs)))))
     (low .modulo4 .ensures)
-    ∙ step-joins (a .hs) (a .left) (test .before .if1 .taken) (failed (test .is-phase .ensures) (low .before .if2 .taken))
+    ∙ step-joins (a .hs) (a .left) (test .before .if1 .taken)
+    (failed (test .is-phase .ensures) (low .before .if2 .taken))
 
 returns-2 : tie.Need-returns-2
 returns-2 c =
