@@ -2,11 +2,11 @@
  * A cycle of error correction: a sheet is admitted, an error struck, its syndrome decoded, and the product of
  * correction and error has no syndrome left.
  *
- *   cc -std=c11 -Iinclude examples/cycle.c target/staticlib/librack.a -o cycle
- *   ./cycle examples/five-qubit.sheet
+ *   cc -std=c11 -Iinclude examples/cycle.c target/staticlib/librack.a -o target/cycle
+ *   target/cycle examples/five-qubit.sheet
  *
- * The file is a sheet and nothing else. The sheets in samples have `s=` lines behind them, which only a report reads:
- * here they are refused with 2.
+ * The file is a sheet and nothing else. The admitted sheets in samples have `s=` lines behind them, which only a report
+ * reads: here they are refused with 2.
  */
 #include <stdio.h>
 #include <stdlib.h>

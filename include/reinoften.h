@@ -17,18 +17,21 @@
  * reads and those that it writes must not overlap. A call writes the first `count` bytes of `out` where its number is 0,
  * leaves the bytes behind them as they were, and leaves all of `out` as it was for every other number. No byte 0 is
  * written behind a text. The one text that tells of refusals is the report: where its input is refused with 1 to 14 or
- * 16, the report says so in its bytes, and the call answers 0.
+ * 16, the report says so in its bytes, and the call answers 0, or 17 where `out` is too short for that text.
  *
  * Records. A code crosses by value. Calls on a record check first that it is within its limits, and refuse it with 15
  * where it is not, so any bytes may be handed over as a record.
  *
- * What is promised of corrections. Take a record that reinoften_read_sheet returned with number 0, and an error on at
- * most t = (d - 1) / 2 of its qubits. Given the syndrome of the error, reinoften_correct answers 0, and so does
- * reinoften_decode where `out` has n bytes, and the report's line for that syndrome has letters. The correction
- * weighs no more than the error, and correction times error is in the group of the generators, phase aside. For a
- * record from elsewhere a correction is still the earliest error of weight at most t with the syndrome, and no more.
+ * What is promised of corrections. Take a record that reinoften_read_sheet returned with number 0, unchanged, and an
+ * error on at most t of its qubits, where t is (d - 1) / 2 rounded down. Given the syndrome of the error,
+ * reinoften_correct answers 0, and so does reinoften_decode where `out` has n bytes or more. A report of that sheet
+ * that is not refused has the same letters in the line for that syndrome. The correction weighs no more than the error,
+ * and correction times error is in the group of the generators, phase aside. For a record from elsewhere a correction
+ * is still the earliest error of weight at most t with the syndrome, and no more.
  *
- * The library keeps nothing between calls, allocates nothing, and may be called from any number of threads.
+ * The library keeps nothing between calls, allocates nothing, and may be called from any number of threads. Nothing is
+ * promised about time. To read a sheet and to make a report takes a search for the distance, which belongs to start-up;
+ * docs/SPEED.md has figures.
  */
 #ifndef REINOFTEN_H
 #define REINOFTEN_H
@@ -44,7 +47,7 @@ extern "C" {
 enum {
     REINOFTEN_DONE = 0,
     REINOFTEN_TOO_LONG = 1,               /* the input has more than 4,096 bytes */
-    REINOFTEN_FORM = 2,                   /* a line fails its form */
+    REINOFTEN_FORM = 2,                   /* a line fails its form, or bytes stand behind the w line */
     REINOFTEN_QUBIT_COUNT = 3,            /* n is not 2 to 24 */
     REINOFTEN_DISTANCE_RANGE = 4,         /* d is not 1 to 7 */
     REINOFTEN_GENERATOR_COUNT = 5,        /* no generator, or one too many */
@@ -52,7 +55,7 @@ enum {
     REINOFTEN_MINUS_IDENTITY = 7,         /* a generator times a selection of earlier ones is -I */
     REINOFTEN_DEPENDENT_GENERATOR = 8,    /* the same product is +I */
     REINOFTEN_LOGICAL_ANTICOMMUTES = 9,   /* a logical operator anticommutes with a generator */
-    REINOFTEN_LOGICAL_PAIRING = 10,       /* two logical operators do not pair */
+    REINOFTEN_LOGICAL_PAIRING = 10,       /* two logical operators do not pair as they must */
     REINOFTEN_CLAIMED_WEIGHT = 11,        /* the weight of w is not d */
     REINOFTEN_CLAIMED_ANTICOMMUTES = 12,  /* w anticommutes with a generator */
     REINOFTEN_CLAIMED_IN_GROUP = 13,      /* w is in the group, phase aside */
@@ -95,7 +98,11 @@ typedef struct {
 
 /*
  * The record of a code: n qubits, r generators, claimed distance d; the generators, k = n - r pairs of logical
- * operators, and w, the claimed lightest logical. Unused rows are +I.
+ * operators, and w, the claimed lightest logical. The first r places of g and the first k of x and of z are used.
+ *
+ * Its limits, outside of which it is refused with 15: n is 2 to 24, r is 1 to n - 1, d is 1 to 7; no mask has a bit
+ * above qubit n; the phase of each row is that of a row with sign + or -, and that of w is that of sign +; the rows that
+ * are not used are +I.
  */
 typedef struct {
     size_t n;
@@ -131,8 +138,8 @@ typedef struct {
 /*
  * Reads a sheet and checks it.
  *   0          admitted: `code` is its record.
- *   1 to 14    refused: `line` names the line, 6 to 10 have a `family`, 14 has `errors`. `code` has all numbers 0 and
- *              all rows +I, which every call refuses with 15.
+ *   1 to 14    refused: 1 names no line, 2 to 14 name one; 6 to 10 have a `family`, 14 has `errors`. `code` has all
+ *              numbers 0 and all rows +I, which every call on a record refuses with 15.
  */
 reinoften_reading reinoften_read_sheet(const uint8_t *sheet, size_t sheet_length);
 
@@ -165,7 +172,8 @@ reinoften_answer reinoften_syndrome(reinoften_code code, reinoften_pauli error, 
  * Decodes a syndrome that is given as r characters '0' or '1'.
  *   0          `out` begins with the n letters of the correction; `count` is n, at most REINOFTEN_LETTERS_ROOM.
  *   255        there is no correction.
- *   15, 16     refused.
+ *   15         refused.
+ *   16         refused: not exactly r characters, or one that is neither '0' nor '1'.
  *   17         refused: `out` is shorter than n bytes. This comes before 255.
  */
 reinoften_answer reinoften_decode(reinoften_code code, const uint8_t *syndrome, size_t syndrome_length,

@@ -65,14 +65,16 @@ static void check(bool holds, const char *what, const char *subject, int line) {
 /* The longest input, and the dots that a buffer holds before a call. */
 enum { LONGEST_INPUT = 4096, DOT = '.' };
 
-/* A buffer of exactly so many bytes, so that AddressSanitizer knows its end. */
+/* The dots that stand on either side of a buffer, to be looked at when it comes back. */
+enum { MARGIN = 64 };
+
 static uint8_t *lent(size_t length) {
-    uint8_t *bytes = malloc(length);
+    uint8_t *bytes = malloc(MARGIN + length + MARGIN);
     if (bytes == NULL) {
         abort();
     }
-    memset(bytes, DOT, length);
-    return bytes;
+    memset(bytes, DOT, MARGIN + length + MARGIN);
+    return bytes + MARGIN;
 }
 
 static bool all_dots(const uint8_t *bytes, size_t length) {
@@ -82,6 +84,13 @@ static bool all_dots(const uint8_t *bytes, size_t length) {
         }
     }
     return true;
+}
+
+/* A call leaves what is beside its buffers. The library's own stores are seen here, and not by AddressSanitizer. */
+static void give_back(const char *name, uint8_t *bytes, size_t length) {
+    CHECK(name, all_dots(bytes - MARGIN, MARGIN));
+    CHECK(name, all_dots(bytes + length, MARGIN));
+    free(bytes - MARGIN);
 }
 
 static bool is_answer(reinoften_answer answer, uint32_t number, size_t line, uint32_t family, size_t count) {
@@ -114,7 +123,7 @@ static reinoften_reading read_bytes(const uint8_t *bytes, size_t length) {
     uint8_t *sheet = lent(length);
     memcpy(sheet, bytes, length);
     reinoften_reading reading = reinoften_read_sheet(sheet, length);
-    free(sheet);
+    give_back("read_sheet", sheet, length);
     return reading;
 }
 
@@ -173,7 +182,7 @@ static void check_room(const char *name, writing call, reinoften_code code, cons
             CHECK(name, memcmp(out, expected, needed) == 0);
             CHECK(name, all_dots(out + needed, length - needed));
         }
-        free(out);
+        give_back(name, out, length);
     }
 }
 
@@ -182,7 +191,7 @@ static void check_untouched(const char *name, writing call, reinoften_code code,
     uint8_t *out = lent(length);
     CHECK(name, is_plain(call(code, out, length), number));
     CHECK(name, all_dots(out, length));
-    free(out);
+    give_back(name, out, length);
 }
 
 /* Y on qubit 2, with another phase, and with mask bits above all qubits. */
@@ -255,7 +264,7 @@ static void check_report_room(void) {
     reinoften_answer answer = report_a(admitted(SHEET_A), out, REINOFTEN_REPORT_ROOM);
     CHECK("report", is_done(answer, 68));
     CHECK("report", all_dots(out + 68, REINOFTEN_REPORT_ROOM - 68));
-    free(out);
+    give_back("report", out, REINOFTEN_REPORT_ROOM);
 }
 
 /* The rooms of the header are those of the longest answers. */
@@ -304,7 +313,7 @@ static void check_input_lengths(void) {
     size_t needed = strlen("n=24\nk=23\nd=1\nt=0\n") + 28 + 343 * (27 + 7);
     CHECK("longest input", is_done(reinoften_report(bytes, length, out, REINOFTEN_REPORT_ROOM), needed));
     CHECK("longest input", memcmp(out + needed - 7, "c=none\n.", 8) == 0);
-    free(out);
+    give_back("longest input", out, REINOFTEN_REPORT_ROOM);
 }
 
 /* Which number, line and family a sheet is refused with. */
@@ -435,7 +444,7 @@ static void check_second_generator(reinoften_pauli row, uint32_t number) {
     CHECK("canonical", is_answer(reinoften_canonical(code, out, REINOFTEN_CANONICAL_ROOM), number, 4, 'g', 0));
     CHECK("canonical", is_answer(reinoften_canonical(code, NULL, 0), number, 4, 'g', 0));
     CHECK("canonical", all_dots(out, REINOFTEN_CANONICAL_ROOM));
-    free(out);
+    give_back("canonical", out, REINOFTEN_CANONICAL_ROOM);
 }
 
 static void check_generators(void) {

@@ -15,7 +15,7 @@ ghost use Rattle.reduced_rows.specs.Rows.{rowsIn, reducedOf};
 ghost use Rattle.elimination_step.specs.Step.{passing, joined};
 
 // A place of the rows once a row was carried past it: the row that now stands here, and the one that is carried on to
-// the next place. Where the new row is placed, it is each time the row that gave way.
+// the next place. Until the new row is placed that is the new row; from then on it is each time the row that gave way.
 struct Passed {
     here: Pauli,
     carried: Pauli,

@@ -22,7 +22,7 @@ use Rattle.decoder.specs.EndToEnd.{Correctable}
 use Rattle.mask_decoding.specs.declared.MaskDecoded.{MaskDecoded}
 use Rattle.mask_decoding.specs.Masks.{bitsOfMask, decodeMask, maskRefusal}
 
--- RULES, "Decoding": a syndrome of r bits and a mask below 2^r tell each other.
+-- RULES, "Calls and buffers": a syndrome of r bits and a mask below 2^r tell each other.
 pub record MasksTellBits : Type 0 where
   pub ofBits : (bits : List Bool) → bitsOfMask (length bits) (maskOfBits bits) ≡ bits
   pub ofMask : (r mask : ℕ) → mask < 2 ^ r → maskOfBits (bitsOfMask r mask) ≡ mask

@@ -29,10 +29,12 @@ use Rattle.decoder.proofs.EndToEnd.{end-to-end}
 use Rattle.decoder.proofs.Guarantee.{errors-are-corrected}
 use Rattle.mask_decoding.specs.declared.MaskDecoded.{MaskDecoded}
 use Rattle.mask_decoding.proofs.Corrected.{corrected-by-value}
+use Rattle.reporting.specs.Report.{writeReport}
+use Rattle.reporting.proofs.Guarantee.{guarantee-in-reports}
 use Rattle.rack_answers.specs.Answers.{done, refusedAnswer, syndromeAnswer, decodedAnswer, correctionAnswer}
 use Rattle.rack_answers.specs.Answers.{admissionAnswer, admissionErrors, errorsIn, sheetAnswer}
 use Rattle.rack_answers.proofs.Numbers.{numbers-tell}
-use Rattle.rack.specs.Calls.{inNumbers, readCall, syndromeCall, decodeCall, correctCall}
+use Rattle.rack.specs.Calls.{inNumbers, readCall, syndromeCall, decodeCall, correctCall, reportCall}
 use Rattle.rack.specs.Statements.{Struck, CorrectsInC, RefutedInC, GuaranteeInC}
 
 -- ---- errors are corrected
@@ -57,6 +59,7 @@ corrected s E struck =
     record {
       letters = is .letters;
       count = correction-is-earliest c (syndrome (generators c) E) .found _ (is .found) .0 .letters;
+      found = is .found;
       light = is .light;
       inGroup = is .inGroup;
       measured = λ buffer room. ap (inNumbers (syndromeAnswer (c .r))) (syndrome-laid c E (lawful .limits) buffer room);
@@ -106,9 +109,14 @@ shown s e =
     }
 
 pub guarantee-in-c : GuaranteeInC
-unfolding readCall refusedReading admitted
+unfolding readCall reportCall refusedReading admitted
 guarantee-in-c = record {
   corrected = corrected;
+  reported = λ input buffer. record {
+    after = writeReport input buffer;
+    guaranteed = guarantee-in-reports input buffer;
+    told = refl;
+  };
   shown = shown;
   refused = λ s q h refuted. rw (end-to-end .refused s q h refuted .1) refl;
   otherwise = λ s q h not. rw (end-to-end .otherwise s q h not) (refl, refl);

@@ -1,6 +1,7 @@
 -- What is stated of the calls for programs in C: what they leave in a buffer, and the third guarantee.
 use mathlib.Core.Bool.{true}
 use mathlib.Core.List.{List, map}
+use mathlib.Core.Option.{some}
 use mathlib.Core.Path.{_≡_}
 use Prim.Native.Nat.{ℕ, _≤_, _<_}
 use lib.ListN.{length}
@@ -14,16 +15,19 @@ use Rattle.pauli.specs.Syndrome.{syndrome, syndromeMask}
 use Rattle.code_record.specs.declared.Code.{Code}
 use Rattle.code_record.specs.Record.{generators, radius, onQubits}
 use Rattle.refusals.specs.declared.Refusal.{Refusal}
+use Rattle.refusals.specs.declared.Written.{Written}
 use Rattle.sheet.specs.Reader.{SheetRead}
 use Rattle.sheet.specs.Text.{After, laid, untouched}
 use Rattle.stabilizer.specs.Group.{InGroupUpToPhase}
 use Rattle.admission.specs.Admission.{AdmissibleButForDistance}
+use Rattle.decoder.specs.Correction.{correction}
 use Rattle.decoder.specs.Statements.{Refutes, Refuted}
 use Rattle.decoder.specs.Syndrome.{syndromeText}
+use Rattle.reporting.specs.Statements.{GuaranteedReport}
 use Rattle.rack_answers.specs.declared.Answer.{Answer}
-use Rattle.rack_answers.specs.Answers.{done, refusedAnswer}
+use Rattle.rack_answers.specs.Answers.{done, refusedAnswer, writtenAnswer}
 use Rattle.rack.specs.Calls.{readCall, sheetCall, canonicalCall, syndromeCall, decodeCall, correctCall}
-use Rattle.rack.specs.Calls.{reportCall}
+use Rattle.rack.specs.Calls.{inNumbers, reportCall}
 
 -- ---- what a call leaves
 
@@ -49,12 +53,13 @@ pub record Struck (s : List ℕ) (E : Pauli) : Type 0 where
   pub onCode : onQubits (readCall s .code .n) E ≡ true
   pub light : weight E ≤ radius (readCall s .code)
 
--- RULES, "Guarantees": the n letters of a correction weigh no more than E, and times E they are in the group, phase
--- aside. The syndrome call writes the characters of E's syndrome, the decode call these letters; and by value the
--- correction is the same.
+-- RULES, "Guarantees": the n letters of the correction for E's syndrome weigh no more than E, and times E they are in
+-- the group, phase aside. The syndrome call writes the characters of E's syndrome, the decode call these letters; and
+-- by value the correction is the same.
 pub record CorrectsInC (c : Code) (E : Pauli) : Type 0 where
   pub letters : List Letter
   pub count : length letters ≡ c .n
+  pub found : correction c (syndrome (generators c) E) ≡ some letters
   pub light : weightOf letters ≤ weight E
   pub inGroup : InGroupUpToPhase (generators c) (product (ofLetters letters) E)
   pub measured : (buffer : List ℕ) → c .r ≤ length buffer
@@ -77,10 +82,18 @@ pub record RefutedInC (s : List ℕ) : Type 0 where
   pub qubits : readCall s .errors .n ≡ read .code .n
   pub refutes : Refutes (read .code) (readCall s .errors .e) (readCall s .errors .f)
 
--- RULES, "Guarantees": the third one. Errors are corrected; number 14 has two errors beside it that refute the
--- distance. A sheet that is admissible but for distance has number 14 where two such errors exist, and else number 0.
+-- RULES, "Guarantees": the third one holds of a report, and that report is what the call answers and writes.
+pub record ReportedInC (input buffer : List ℕ) : Type 0 where
+  pub after : After Written
+  pub guaranteed : GuaranteedReport input buffer after
+  pub told : reportCall input buffer ≡ inNumbers writtenAnswer after
+
+-- RULES, "Guarantees": the third one. Errors are corrected, in reports too; number 14 has two errors beside it that
+-- refute the distance. A sheet that is admissible but for distance has number 14 where two such errors exist, and else
+-- number 0.
 pub record GuaranteeInC : Type 0 where
   pub corrected : (s : List ℕ) (E : Pauli) → Struck s E → CorrectsInC (readCall s .code) E
+  pub reported : (input buffer : List ℕ) → ReportedInC input buffer
   pub shown : (s : List ℕ) → readCall s .answer .number ≡ 14 → RefutedInC s
   pub refused : (s : List ℕ) (q : SheetRead) → AdmissibleButForDistance s q → Refuted (q .code)
       → readCall s .answer .number ≡ 14

@@ -8,7 +8,6 @@ use Rattle.admission.specs.declared.Reading.{Reading}
 use Rattle.decoder.specs.declared.Decoded.{Decoded}
 use Rattle.decoder.specs.declared.SyndromeAnswer.{SyndromeAnswer}
 use Rattle.mask_decoding.specs.declared.MaskDecoded.{MaskDecoded}
-use Rattle.pauli.specs.declared.Pauli.{Pauli}
 use Rattle.rack_answers.specs.Answers.{noneNumber, refusedAnswer, writtenAnswer, syndromeAnswer, decodedAnswer}
 use Rattle.rack_answers.specs.Answers.{correctionAnswer, sheetAnswer}
 

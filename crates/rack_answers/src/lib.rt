@@ -31,7 +31,7 @@ pub struct Answer {
     pub count: usize,
 }
 
-// A sheet's reading: beside 14 the two errors, beside every other answer none on 0 qubits; and the record.
+// A sheet's reading: beside 14 the two errors, beside every other answer two +I on 0 qubits; and the record.
 #[repr(C)]
 pub struct SheetAnswer {
     pub answer: Answer,

@@ -27,8 +27,8 @@ firstPlaces words = placesFrom 0 words
 unfoldable pub NoneBefore : List ℕ → List ℕ → Type 0
 NoneBefore places words = (j : ℕ) → j < length words → getD places (slotOf (getD words j 0)) 0 ≤ j
 
--- Whether so many letters may have the wanted word, where their own words have places below `end`. Without a letter the
--- word is 0, and one letter has a word with the slot of the wanted one.
+-- Whether so many letters may sum to the wanted word, where their own words have places below `end`. Without a letter
+-- the sum is 0, and one letter has a word with the slot of the wanted one.
 unfoldable pub mayEnd : List ℕ → ℕ → ℕ → ℕ → Bool
 mayEnd places zero end want = eqb want 0
 mayEnd places (suc zero) end want = ltb (getD places (slotOf want) 0) end

@@ -1,4 +1,4 @@
-// A filter of words, for the last letters of a string in the search: it rules most strings out before their last letter
+// A filter of words, for the last letter of a string in the search: it rules most strings out before their last letter
 // is looked for.
 use letter_sums::WORD_ROOM;
 ghost use mathlib.Core.Path.{_≡_};
@@ -9,7 +9,7 @@ pub const SLOTS: usize = 4096;
 
 const NO_PLACE: u8 = 255;
 
-// The slot of a word. Words of one kind of letter may differ in their upper bits alone, so these are brought in.
+// The slot of a word. Words that differ only above their twelfth bit would share one, so the upper bits are added in.
 fn slot(word: u32) -> usize
     ensures { λ r. ⌜ r ≡ slotOf word ⌝ }
 {
@@ -30,7 +30,7 @@ pub fn first_places(words: [u32; WORD_ROOM]) -> [u8; SLOTS]
     places
 }
 
-// Whether so many letters, whose words have places below `end`, may have the wanted word. Without a letter the word is
+// Whether so many letters, whose words have places below `end`, may sum to the wanted word. Without a letter the sum is
 // 0, and one letter has a word with the slot of the wanted one. Of more letters nothing is known. A table may be short:
 // at a slot behind its end it rules nothing out, as with the place 0.
 pub fn may_end(places: &[u8], letters: usize, end: u8, want: u32) -> bool

@@ -1,8 +1,8 @@
 //! A cycle of error correction: a sheet is admitted, an error struck, its syndrome decoded, and the product of
 //! correction and error has no syndrome left. `examples/cycle.c` is the same in C.
 //!
-//! The file is a sheet and nothing else. The sheets in `samples` have `s=` lines behind them, which only a report
-//! reads: here they are refused with 2.
+//! The file is a sheet and nothing else. The admitted sheets in `samples` have `s=` lines behind them, which only a
+//! report reads: here they are refused with 2.
 use reinoften::{read_sheet, Code, Pauli, LETTERS_ROOM, SYNDROME_ROOM};
 use std::env;
 use std::fmt::Display;
