@@ -98,13 +98,20 @@ fn public_functions() -> BTreeSet<String> {
                 owner = rest.trim_end_matches(" {").to_string();
             } else if line == "}" {
                 owner = layer.file_name().into_string().unwrap();
-            } else if let Some(rest) = line.trim_start().strip_prefix("pub fn ") {
-                let name = rest.split('(').next().unwrap();
+            } else if let Some(name) = public_function(line) {
                 found.insert(format!("{owner}::{name}"));
             }
         }
     }
     found
+}
+
+/// The function that a line declares, for Rattle or for C.
+fn public_function(line: &str) -> Option<&str> {
+    let line = line.trim_start();
+    let declared = ["pub fn ", "pub extern \"C\" fn "];
+    let rest = declared.iter().find_map(|start| line.strip_prefix(start))?;
+    rest.split('(').next()
 }
 
 #[test]
