@@ -41,7 +41,10 @@ fn lines_fit(words: LetterWords, t: usize, r: usize, syndromes: &[u8], room: usi
         let SyndromeRead::Mask(syndrome) = read_syndrome_line(&syndromes[place..], r) else {
             return true;
         };
-        let length = line_length(words.qubits, correct_by(words, t, syndrome));
+        let length = line_length(
+            words.qubits,
+            correct_by(&words.first, &words.second, words.qubits, t, syndrome),
+        );
         if left < length {
             return false;
         }

@@ -1,13 +1,14 @@
 // Corrections by value: the earliest error of weight at most t with a syndrome, which is given as a mask.
 use code_record::Code;
 use letter_sums::Found;
-use letter_sums::LetterWords;
+use letter_sums::WORD_ROOM;
 use letter_words::syndrome_words;
 use letters::Sign;
 use pauli::Pauli;
 use search::earliest;
 ghost use mathlib.Core.Path.{_≡_};
 ghost use Rattle.code_record.specs.Record.{radius};
+ghost use Rattle.letter_sums.specs.Sums.{wordsOf};
 ghost use Rattle.corrections.specs.Corrections.{correctionBy, correctionFor};
 
 // The correction for a syndrome, with sign +; or none, where no error of weight at most t has the syndrome.
@@ -24,11 +25,18 @@ pub fn radius(code: Code) -> usize
 }
 
 // The correction of weight at most t for a syndrome, by the words of a code's letters. They are made once, and serve
-// for any number of syndromes. All second words of `syndrome_words` are 0, so with 1 shunned no string is passed over.
-pub fn correct_by(words: LetterWords, t: usize, syndrome: u32) -> Correction
-    ensures { λ r. ⌜ r ≡ correctionBy words t syndrome ⌝ }
+// for any number of syndromes, so they are lent. All second words of `syndrome_words` are 0, so with 1 shunned no string
+// is passed over.
+pub fn correct_by<'a>(
+    first: &'a [u32; WORD_ROOM],
+    second: &'a [u64; WORD_ROOM],
+    qubits: usize,
+    t: usize,
+    syndrome: u32,
+) -> Correction
+    ensures { λ r. ⌜ r ≡ correctionBy (wordsOf qubits (now (first .entry)) (now (second .entry))) t syndrome ⌝ }
 {
-    match earliest(words, t, syndrome, 1) {
+    match earliest(first, second, qubits, t, syndrome, 1) {
         Found::At { a, b } => Correction::Found(Pauli::signed(Sign::Plus, a, b)),
         Found::Nothing => Correction::None,
     }
@@ -38,5 +46,7 @@ pub fn correct_by(words: LetterWords, t: usize, syndrome: u32) -> Correction
 pub fn correct(code: Code, syndrome: u32) -> Correction
     ensures { λ r. ⌜ r ≡ correctionFor code syndrome ⌝ }
 {
-    correct_by(syndrome_words(code), radius(code), syndrome)
+    let words = syndrome_words(code);
+    let t = radius(code);
+    correct_by(&words.first, &words.second, words.qubits, t, syndrome)
 }

@@ -36,7 +36,7 @@ fn correction_lines(
         let SyndromeRead::Mask(syndrome) = read_syndrome_line(&syndromes[place..], r) else {
             return end;
         };
-        let correction = correct_by(words, t, syndrome);
+        let correction = correct_by(&words.first, &words.second, words.qubits, t, syndrome);
         end += write_correction(words.qubits, correction, &mut out[end..]).count();
         place += r + 3;
     }

@@ -26,7 +26,8 @@ pub fn check_distance(code: Code, reduced: ReducedRows, at: usize) -> Checked
     ensures { λ r. ⌜ checkedRefusal r ≡ distanceBy at code reduced ⌝ }
 {
     let words = logical_words(code, reduced);
-    match earliest(words, below(code.d), 0, 0) {
+    let most = below(code.d);
+    match earliest(&words.first, &words.second, words.qubits, most, 0, 0) {
         Found::At { a, b } => {
             Checked::Refused(Refusal::DistanceRefuted(at, refuting_pair(code.n, a, b)))
         }

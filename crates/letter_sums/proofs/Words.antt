@@ -151,6 +151,16 @@ module _ (words second : List ℕ) where
   unfolding first firstUpTo earliestOf earliestUpTo
   up-to-some n t want shun w s h each here = steps.up-to-some test after moves still n t (want, shun) w s h each here
 
+  pub up-to-stays : (n m t want shun : ℕ) (s : List Letter) → m ≤ t → earliestUpTo words second n m want shun ≡ some s
+      → earliestUpTo words second n t want shun ≡ some s
+  unfolding firstUpTo earliestUpTo
+  up-to-stays n m t want shun s h found = steps.up-to-stays test after moves still n m t (want, shun) s h found
+
+  pub none-up-to : (n t want shun : ℕ) → earliestUpTo words second n t want shun ≡ none
+      → NoneLighter n want shun (suc t)
+  unfolding first firstUpTo earliestOf earliestUpTo
+  none-up-to n t want shun e = steps.none-up-to test after moves still n t (want, shun) e
+
   -- ---- no letters left
 
   -- I has the words 0 and 0: they are the wanted one and not the shunned one, or nothing is found.

@@ -2,18 +2,20 @@
 // sum to a shunned one, bit by bit. It knows nothing of codes: with syndromes as first words it finds a correction, and
 // with what is left of a letter by the group's rows as second words it finds a logical error.
 use letter_sums::Found;
-use letter_sums::LetterWords;
 use letter_sums::QUBIT_ROOM;
+use letter_sums::WORD_ROOM;
 use letters::Letter;
+use word_filter::SLOTS;
 use word_filter::first_places;
 use word_filter::may_end;
 ghost use mathlib.Core.List.{List};
+ghost use mathlib.Core.Option.{none};
 ghost use mathlib.Core.Path.{_≡_};
 ghost use Prim.Native.Nat.{ℕ, _+_, _*_, _^_, min, _≤_, _<_};
 ghost use lib.ListN.{length};
 ghost use Rattle.letters.specs.Letters.{struckLetter};
 ghost use Rattle.word_filter.specs.Filter.{NoneBefore};
-ghost use Rattle.letter_sums.specs.Sums.{placedAt, foundAs, earliestOf, earliestUpTo, earliestBy};
+ghost use Rattle.letter_sums.specs.Sums.{placedAt, foundAs, earliestOf, earliestUpTo, wordsOf, earliestBy};
 
 // The masks of `gap` letters I, then the letter numbered 0, 1, 2 (X, Y, Z), then `right` letters that have the masks a
 // and b.
@@ -95,12 +97,14 @@ fn smaller(m: usize, n: usize) -> usize
     if m < n { m } else { n }
 }
 
-// The earliest string of weight at most t. No string is heavier than it has letters.
+// The earliest string of weight at most t, where there is none lighter than `least`. No string is heavier than it has
+// letters.
 fn lightest(
     places: &[u8],
     first: &[u32],
     second: &[u64],
     qubits: usize,
+    least: usize,
     t: usize,
     want: u32,
     shun: u64,
@@ -109,11 +113,12 @@ fn lightest(
     requires { ⌜ 3 * qubits ≤ length (now first) ⌝ }
     requires { ⌜ 3 * qubits ≤ length (now second) ⌝ }
     requires { ⌜ NoneBefore (now places) (now first) ⌝ }
+    requires { ⌜ ((v : ℕ) → v < least → earliestOf (now first) (now second) qubits v want shun ≡ none) ⌝ }
     ensures { λ r. ⌜ r ≡ foundAs (earliestUpTo (now (first .entry)) (now (second .entry)) qubits t want shun) ⌝ }
 {
     let most = smaller(t, qubits);
     'search: loop {
-        for weight in 0..most + 1 {
+        for weight in least..most + 1 {
             let found = completion(places, first, second, qubits, weight, want, shun);
             if let Found::At { .. } = found {
                 break 'search found;
@@ -123,18 +128,44 @@ fn lightest(
     }
 }
 
-// The earliest string of weight at most t on the qubits that have words. The table is asked for weights from 2 on, and
-// below them none is made.
-pub fn earliest(words: LetterWords, t: usize, want: u32, shun: u64) -> Found
-    ensures { λ r. ⌜ r ≡ earliestBy words t want shun ⌝ }
+// The same with the table, where no string of one letter or none is found. Heavier ones are looked for by the table.
+fn heavier(
+    first: &[u32; WORD_ROOM],
+    second: &[u64; WORD_ROOM],
+    qubits: usize,
+    t: usize,
+    want: u32,
+    shun: u64,
+) -> Found
+    requires { ⌜ qubits ≤ 32 ⌝ }
+    requires { ⌜ ((v : ℕ) → v < 2 → earliestOf (now first) (now second) qubits v want shun ≡ none) ⌝ }
+    ensures { λ r. ⌜ r ≡ foundAs (earliestUpTo (now (first .entry)) (now (second .entry)) qubits t want shun) ⌝ }
 {
-    let first = words.first;
-    let second = words.second;
-    let qubits = smaller(words.qubits, QUBIT_ROOM);
-    if t < 2 {
-        let none = [0u8; 0];
-        return lightest(&none, &first, &second, qubits, t, want, shun);
+    let mut places = [0u8; SLOTS];
+    first_places(*first, &mut places);
+    lightest(&places, first, second, qubits, 2, t, want, shun)
+}
+
+// The earliest string of weight at most t on the qubits that have words. The table is asked for weights from 2 on, and
+// is made where nothing lighter is found.
+pub fn earliest<'a>(
+    first: &'a [u32; WORD_ROOM],
+    second: &'a [u64; WORD_ROOM],
+    qubits: usize,
+    t: usize,
+    want: u32,
+    shun: u64,
+) -> Found
+    ensures { λ r. ⌜ r ≡ earliestBy (wordsOf qubits (now (first .entry)) (now (second .entry))) t want shun ⌝ }
+{
+    let n = smaller(qubits, QUBIT_ROOM);
+    let none = [0u8; 0];
+    let light = lightest(&none, first, second, n, 0, smaller(t, 1), want, shun);
+    if let Found::At { .. } = light {
+        return light;
     }
-    let places = first_places(first);
-    lightest(&places, &first, &second, qubits, t, want, shun)
+    if t < 2 {
+        return light;
+    }
+    heavier(first, second, n, t, want, shun)
 }

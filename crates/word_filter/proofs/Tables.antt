@@ -38,6 +38,10 @@ length-places place [] = length-replicate {A = ℕ} 4096 255
 length-places place (w ∷ words) =
     length-set (placesFrom (suc place) words) (slotOf w) place ∙ length-places (suc place) words
 
+pub length-first-places : (words : List ℕ) → 4096 ≡ length (firstPlaces words)
+unfolding firstPlaces
+length-first-places words = sym (length-places 0 words)
+
 own-place : (place w : ℕ) (words : List ℕ)
     → getD (set (placesFrom (suc place) words) (slotOf w) place) (slotOf w) 0 ≡ place
 own-place place w words =

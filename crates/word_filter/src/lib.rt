@@ -17,17 +17,16 @@ fn slot(word: u32) -> usize
 }
 
 // The first place of a word for each slot. The places are stored from the last one down, so that the first one stays.
-pub fn first_places(words: [u32; WORD_ROOM]) -> [u8; SLOTS]
-    ensures { λ r. ⌜ r ≡ firstPlaces words ⌝ }
+pub fn first_places(words: [u32; WORD_ROOM], places: &mut [u8; SLOTS])
+    ensures { λ _. ⌜ now (places .exit) ≡ firstPlaces words ⌝ }
 {
-    let mut places = [NO_PLACE; SLOTS];
+    *places = [NO_PLACE; SLOTS];
     let mut place: usize = WORD_ROOM;
     while 0 < place {
         place -= 1;
         let at = slot(words[place]);
         places[at] = place as u8;
     }
-    places
 }
 
 // Whether so many letters, whose words have places below `end`, may sum to the wanted word. Without a letter the sum is

@@ -18,17 +18,17 @@ use Rattle.correction_lines.proofs.lines_fit.Statement.{statement}
 use Rattle.correction_lines.proofs.lines_fit.Tie as tie
 
 abbrev Inv-loop : tie.InvT-loop
-Inv-loop words t r syndromes room left₀ place₀ left place = Left words t r syndromes room place left
+Inv-loop t r syndromes room words left₀ place₀ left place = Left words t r syndromes room place left
 
 abbrev μ-loop : tie.MeasureT-loop
-μ-loop words t r syndromes room left₀ place₀ left place = length syndromes - place
+μ-loop t r syndromes room words left₀ place₀ left place = length syndromes - place
 
 abbrev At : Type 0
 At = tie.At-loop Inv-loop μ-loop
 
 module _ (c : At) where
   abbrev words : LetterWords
-  words = c .before .before .args .words
+  words = c .before .before .args .t1
 
   abbrev t : ℕ
   t = c .before .before .args .t
@@ -58,16 +58,16 @@ line-is c = sym (c .read-syndrome-line .ensures ∙ ap (maskLine (r (at c))) (ta
 
 module _ (c : tie.After-line-length Inv-loop μ-loop) where
   abbrev line : Line
-  line = c .before .before .before .before .before
+  line = c .before .before .before .before .before .before .before .before
 
   abbrev here : At
   here = at line
 
   abbrev mask : ℕ
-  mask = c .before .before .before .syndrome .given .0 .0
+  mask = c .before .before .before .before .before .before .syndrome .given .0 .0
 
   line-read : maskLine (r here) (drop (here .loop .place) (s here)) ≡ SyndromeRead.Mask mask
-  line-read = line-is line ∙ c .before .before .before .syndrome .given .1
+  line-read = line-is line ∙ c .before .before .before .before .before .before .syndrome .given .1
 
   within : here .loop .place + (r here + 3) ≤ length (s here)
   within = line-within (words here) (t here) (r here) (s here) (here .loop .inv .passed) line-read
@@ -80,7 +80,7 @@ module _ (c : tie.After-line-length Inv-loop μ-loop) where
 -- ---- the needs
 
 loop-holds : tie.Need-loop-holds Inv-loop μ-loop
-loop-holds c = let a = c .before .args in left-all (a .words) (a .t) (a .r) (a .syndromes .now) (a .room)
+loop-holds c = let a = c .before .args in left-all (a .t1) (a .t) (a .r) (a .syndromes .now) (a .room)
 
 returns : tie.Need-returns Inv-loop μ-loop
 returns c =

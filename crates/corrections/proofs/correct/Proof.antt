@@ -8,18 +8,21 @@ use Rattle.corrections.proofs.ByValue.{corrections-by-value}
 use Rattle.corrections.proofs.correct.Statement.{statement}
 use Rattle.corrections.proofs.correct.Tie as tie
 
+abbrev made : tie.After-correct-by → tie.After-syndrome-words
+made c = c .before .before .before .before .before
+
 -- What the call was given.
 by-words : (c : tie.After-correct-by)
-    → let words = c .before .before .syndrome-words .result in
-    c .correct-by .result ≡ correctionBy words (c .before .radius .result) (c .before .before .before .args .syndrome)
+    → c .correct-by .result
+    ≡ correctionBy (made c .syndrome-words .result) (c .before .before .before .before .radius .result) (made c .before .args .syndrome)
 by-words c = c .correct-by .ensures
 
 returns : tie.Need-returns
 returns c =
-    let words = c .before .before .syndrome-words in
-    let a = c .before .before .before .args in
+    let a = made c .before .args in
     by-words c
-    ∙ ap₂ (λ (w : LetterWords) (t : ℕ). correctionBy w t (a .syndrome)) (words .ensures) (c .before .radius .ensures)
+    ∙ ap₂ (λ (w : LetterWords) (t : ℕ). correctionBy w t (a .syndrome)) (made c .syndrome-words .ensures)
+    (c .before .before .before .before .radius .ensures)
     ∙ corrections-by-value .byWords (a .code) (a .syndrome)
 
 pub correct-spec : {M : Type 1} → statement M

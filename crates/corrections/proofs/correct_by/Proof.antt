@@ -3,13 +3,16 @@ use mathlib.Core.Path.{_≡_, ap, sym, _∙_}
 use borrow.Author.Needs.{needs}
 use Rattle.letters.specs.declared.Sign.the-variants.{Plus}
 use Rattle.pauli.specs.Letters.{rowOf}
+use Rattle.letter_sums.specs.Sums.{wordsOf}
 use Rattle.corrections.specs.declared.Correction.{Correction}
 use Rattle.corrections.specs.Corrections.{ofMasks, correctionBy}
 use Rattle.corrections.proofs.correct_by.Statement.{statement}
 use Rattle.corrections.proofs.correct_by.Tie as tie
 
 decided : (c : tie.After-earliest)
-    → let a = c .before .args in ofMasks (c .earliest .result) ≡ correctionBy (a .words) (a .t) (a .syndrome)
+    → let a = c .before .args in
+    ofMasks (c .earliest .result)
+    ≡ correctionBy (wordsOf (a .qubits) (a .first .now) (a .second .now)) (a .t) (a .syndrome)
 unfolding correctionBy
 decided c = ap ofMasks (c .earliest .ensures)
 

@@ -24,10 +24,10 @@ use Rattle.corrections_writer.proofs.correction_lines.Statement.{statem
 use Rattle.corrections_writer.proofs.correction_lines.Tie as tie
 
 abbrev Inv-loop : tie.InvT-loop
-Inv-loop words t r syndromes out₀ end₀ place₀ out end place = Answered words t r syndromes out₀ place out end
+Inv-loop t r syndromes out₀ words end₀ place₀ out end place = Answered words t r syndromes out₀ place out end
 
 abbrev μ-loop : tie.MeasureT-loop
-μ-loop words t r syndromes out₀ end₀ place₀ out end place = length syndromes - place
+μ-loop t r syndromes out₀ words end₀ place₀ out end place = length syndromes - place
 
 abbrev At : Type 0
 At = tie.At-loop Inv-loop μ-loop
@@ -37,7 +37,7 @@ module _ (c : At) where
   start = c .before .before .before
 
   abbrev words : LetterWords
-  words = start .args .words
+  words = start .args .t1
 
   abbrev t : ℕ
   t = start .args .t
@@ -67,16 +67,16 @@ line-is c = sym (c .read-syndrome-line .ensures ∙ ap (maskLine (r (at c))) (ta
 
 module _ (c : tie.After-correct-by Inv-loop μ-loop) where
   abbrev line : Line
-  line = c .before .before .before .before
+  line = c .before .before .before .before .before .before .before
 
   abbrev here : At
   here = at line
 
   abbrev mask : ℕ
-  mask = c .before .before .syndrome .given .0 .0
+  mask = c .before .before .before .before .before .syndrome .given .0 .0
 
   line-read : maskLine (r here) (drop (here .loop .place) (s here)) ≡ SyndromeRead.Mask mask
-  line-read = line-is line ∙ c .before .before .syndrome .given .1
+  line-read = line-is line ∙ c .before .before .before .before .before .syndrome .given .1
 
   within : here .loop .place + (r here + 3) ≤ length (s here)
   within = line-within (words here) (t here) (r here) (s here) (here .loop .inv .passed) line-read
@@ -143,7 +143,7 @@ module _ (c : tie.After-count Inv-loop μ-loop) where
 loop-holds : tie.Need-loop-holds Inv-loop μ-loop
 loop-holds c =
     let a = c .before .before .args in
-    answered-none (a .words) (a .t) (a .r) (a .syndromes .now) (a .out .now)
+    answered-none (a .t1) (a .t) (a .r) (a .syndromes .now) (a .out .now)
 
 same-length : tie.Need-same-length Inv-loop μ-loop
 same-length c = at (c .before .before) .loop .inv .held .size

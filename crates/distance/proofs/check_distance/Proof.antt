@@ -8,20 +8,23 @@ use Rattle.distance.proofs.Refuted.{refuted-by}
 use Rattle.distance.proofs.check_distance.Statement.{statement}
 use Rattle.distance.proofs.check_distance.Tie as tie
 
+abbrev made : tie.After-earliest → tie.After-logical-words
+made c = c .before .before .before .before .before
+
 -- What was found decides.
 decided : (c : tie.After-earliest)
-    → let a = c .before .before .before .args in
+    → let a = made c .before .args in
     refutedBy (a .at) (a .code .n) (c .earliest .result) ≡ distanceBy (a .at) (a .code) (a .reduced)
 decided c =
-    let words = c .before .before .logical-words in
-    let a = c .before .before .before .args in
-    refuted-by (a .at) (a .code) (a .reduced) (words .result) (c .before .below .result) (c .earliest .result)
-    (words .ensures) (c .before .below .ensures) (c .earliest .ensures)
+    let words = made c .logical-words in
+    let a = made c .before .args in
+    refuted-by (a .at) (a .code) (a .reduced) (words .result) (c .before .before .before .before .below .result) (c .earliest .result)
+    (words .ensures) (c .before .before .before .before .below .ensures) (c .earliest .ensures)
 
 returns : tie.Need-returns
 returns c =
     let found = c .before .before .before .before in
-    let a = found .before .before .before .args in
+    let a = made found .before .args in
     ap (λ pair. some (Refusal.DistanceRefuted (a .at) pair)) (c .refuting-pair .ensures)
     ∙ ap (refutedBy (a .at) (a .code .n)) (sym (c .before .before .a .given .1))
     ∙ decided found
@@ -29,7 +32,7 @@ returns c =
 returns-2 : tie.Need-returns-2
 returns-2 c =
     let found = c .before .before in
-    let a = found .before .before .before .args in
+    let a = made found .before .args in
     ap (refutedBy (a .at) (a .code .n)) (sym (c .enum-told .given .1)) ∙ decided found
 
 pub check-distance-spec : {M : Type 1} → statement M

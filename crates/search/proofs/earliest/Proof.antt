@@ -1,81 +1,103 @@
--- The words have room for the qubits. Without a table nothing is ruled out, and the table tells nothing wrong.
-use mathlib.Core.List.{List, []}
+-- Few letters are looked for without a table, by which nothing is ruled out. A string that they make is the earliest of
+-- all; where they make none, the heavier ones are looked for with the table, which tells nothing wrong.
+use mathlib.Core.List.{List}
+use mathlib.Core.Option.{none}
 use mathlib.Core.Path.{_≡_, refl, ap, subst, sym, _∙_}
-use Prim.Native.Nat.{ℕ, _≤_, _*_, min}
+use Prim.Native.Nat.{ℕ, _≤_, _<_, _*_, min}
 use native.Mathlib.Omega.{arith}
 use lib.ListN.{length}
 use borrow.Author.Needs.{needs}
-use Rattle.letter_sums.specs.declared.LetterWords.{LetterWords}
-use Rattle.letter_sums.specs.Sums.{foundAs, earliestUpTo, earliestBy}
-use Rattle.letter_sums.proofs.ArrayLengths.{first-room, second-room}
+use Rattle.letter_sums.specs.Sums.{foundAs, earliestUpTo, wordsOf, earliestBy}
+use Rattle.letter_sums.proofs.Masks.{found-some, found-nothing, found-again}
+use Rattle.letter_sums.proofs.Words.{NoneLighter, up-to-stays, none-up-to}
 use Rattle.word_filter.specs.Filter.{NoneBefore}
 use Rattle.word_filter.proofs.Tables.{all-told, none-told}
 use Rattle.search.proofs.earliest.Statement.{statement}
 use Rattle.search.proofs.earliest.Tie as tie
 
-abbrev the-words : tie.After-smaller → LetterWords
-the-words c = c .before .before .before .args .words
-
-first-long : (c : tie.After-smaller) → 96 ≡ length (the-words c .first)
-first-long c = first-room (the-words c) (c .before .before .before .good .0)
-
-second-long : (c : tie.After-smaller) → 96 ≡ length (the-words c .second)
-second-long c = second-room (the-words c) (c .before .before .before .good .0)
-
-asked : (c : tie.After-smaller) (places : List ℕ) → NoneBefore places (the-words c .first)
-    → (c .smaller .result ≤ 32)
-    × ((3 * c .smaller .result ≤ length (the-words c .first))
-    × ((3 * c .smaller .result ≤ length (the-words c .second)) × NoneBefore places (the-words c .first)))
-asked c places told =
-    let few = c .smaller .ensures in
-    (omega (arith, few), (omega (arith, few, first-long c), (omega (arith, few, second-long c), told)))
-
-on-qubits : (words : LetterWords) (n t want shun : ℕ) → n ≡ min (words .qubits) 32
-    → foundAs (earliestUpTo (words .first) (words .second) n t want shun) ≡ earliestBy words t want shun
+on-qubits : (first second : List ℕ) (qubits n t want shun : ℕ) → n ≡ min qubits 32
+    → foundAs (earliestUpTo first second n t want shun) ≡ earliestBy (wordsOf qubits first second) t want shun
 unfolding earliestBy
-on-qubits words n t want shun few =
-    ap (λ (m : ℕ). foundAs (earliestUpTo (words .first) (words .second) m t want shun)) few
+on-qubits first second qubits n t want shun few =
+    ap (λ (m : ℕ). foundAs (earliestUpTo first second m t want shun)) few
 
 lightest-requires : tie.Need-lightest-requires
 lightest-requires c κs =
-    let chosen = c .before .before .before .before in
-    asked chosen [] (none-told (the-words chosen .first))
+    let few = c .before .before .before .before .smaller .ensures in
+    let a = c .before .before .before .before .before .args in
+    let first-long : length (a .first .now) ≡ 96 = search needs in
+    let second-long : length (a .second .now) ≡ 96 = search needs in (
+      omega (arith, few),
+      (
+        omega (arith, few, first-long),
+        (omega (arith, few, second-long), (none-told (a .first .now), λ v h. absurd (omega arith))),
+      ),
+    )
 
-lightest-requires-2 : tie.Need-lightest-requires-2
-lightest-requires-2 c κs =
-    let made = c .before .before .before in
-    let chosen = made .before .before in
-    let words = the-words chosen .first in
-    asked chosen (made .first-places .result)
-    (subst (λ (places : List ℕ). NoneBefore places words) (sym (made .first-places .ensures)) (all-told words))
+-- ---- behind the search for few letters
+
+abbrev before-all : tie.After-lightest → tie.Start
+before-all c = c .before .before .before .before .before .before
+
+abbrev qubits : tie.After-lightest → ℕ
+qubits c = c .before .before .before .before .before .smaller .result
+
+few-qubits : (c : tie.After-lightest) → qubits c ≡ min (before-all c .args .qubits) 32
+few-qubits c = c .before .before .before .before .before .smaller .ensures
+
+few-letters : (c : tie.After-lightest) → c .before .smaller2 .result ≡ min (before-all c .args .t) 1
+few-letters c = c .before .smaller2 .ensures
 
 returns : tie.Need-returns
 returns c =
-    let chosen = c .before .before .before .before .before in
-    let a = chosen .before .before .before .args in
-    c .lightest .ensures
-    ∙ on-qubits (a .words) (chosen .smaller .result) (a .t) (a .want) (a .shun) (chosen .smaller .ensures)
+    let call = c .before .before in
+    let a = before-all call .args in
+    let told = found-some _ _ _ (sym (c .enum-told .given .1) ∙ call .lightest .ensures) in
+    c .enum-told .given .1
+    ∙ found-again _ _ _ _ told
+    (up-to-stays (a .first .now) (a .second .now) (qubits call) (call .before .smaller2 .result) (a .t) (a .want)
+    (a .shun) (told .string) (omega (arith, few-letters call)) (told .told))
+    ∙ on-qubits (a .first .now) (a .second .now) (a .qubits) (qubits call) (a .t) (a .want) (a .shun) (few-qubits call)
 
 returns-2 : tie.Need-returns-2
 returns-2 c =
-    let chosen = c .before .before .before .before .before .before in
-    let a = chosen .before .before .before .args in
-    c .lightest2 .ensures
-    ∙ on-qubits (a .words) (chosen .smaller .result) (a .t) (a .want) (a .shun) (chosen .smaller .ensures)
+    let call = c .before .before .before in
+    let a = before-all call .args in
+    let all : call .before .smaller2 .result ≡ a .t = omega (arith, few-letters call, c .if1 .taken) in
+    call .lightest .ensures
+    ∙ ap (λ (t : ℕ). foundAs (earliestUpTo (a .first .now) (a .second .now) (qubits call) t (a .want) (a .shun))) all
+    ∙ on-qubits (a .first .now) (a .second .now) (a .qubits) (qubits call) (a .t) (a .want) (a .shun) (few-qubits call)
+
+heavier-requires : tie.Need-heavier-requires
+heavier-requires c κs =
+    let call = c .before .before .before in
+    let a = before-all call .args in
+    let one : call .before .smaller2 .result ≡ 1 = omega (arith, few-letters call, c .if1 .left) in
+    let nothing = found-nothing _ (sym (c .before .enum-told2 .given .1) ∙ call .lightest .ensures) in (
+      omega (arith, few-qubits call),
+      none-up-to (a .first .now) (a .second .now) (qubits call) 1 (a .want) (a .shun)
+          (subst (λ (t : ℕ). earliestUpTo (a .first .now) (a .second .now) (qubits call) t (a .want) (a .shun) ≡ none)
+          one nothing),
+    )
+
+returns-3 : tie.Need-returns-3
+returns-3 c =
+    let call = c .before .before .before .before in
+    let a = before-all call .args in
+    c .heavier .ensures
+    ∙ on-qubits (a .first .now) (a .second .now) (a .qubits) (qubits call) (a .t) (a .want) (a .shun) (few-qubits call)
 
 pub earliest-spec : {M : Type 1} → statement M
 earliest-spec =
     tie.close
     (tie.spec
     (λ c κs. search needs)  -- smaller-requires
-    (λ c. refl)  -- slice-aggregate-lightest
-    (λ c. first-long (c .before .before .before))  -- slice-aggregate-lightest-2
-    (λ c. second-long (c .before .before .before .before))  -- slice-aggregate-lightest-3
+    (λ c. search needs)  -- slice-aggregate-lightest
+    (λ c κs. search needs)  -- smaller-requires-2
     lightest-requires
+    (λ c. search needs)  -- enum-told
     returns
-    (λ c κs. search needs)  -- first-places-requires
-    (λ c. search needs)  -- slice-aggregate-lightest-4
-    (λ c. first-long (c .before .before .before .before))  -- slice-aggregate-lightest-5
-    (λ c. second-long (c .before .before .before .before .before))  -- slice-aggregate-lightest-6
-    lightest-requires-2
-    returns-2)
+    (λ c. search needs)  -- enum-told-2
+    returns-2
+    heavier-requires
+    returns-3)

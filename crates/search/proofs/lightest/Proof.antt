@@ -1,4 +1,4 @@
--- The weights are tried from 0 on, and no lighter string is found.
+-- The weights are tried from the least on, and no lighter string is found.
 use mathlib.Core.Path.{_≡_, sym, _∙_}
 use Prim.Native.Nat.{_-_, _≤_, min}
 use native.Mathlib.Omega.{arith}
@@ -10,17 +10,17 @@ use Rattle.search.proofs.lightest.Statement.{statement}
 use Rattle.search.proofs.lightest.Tie as tie
 
 abbrev Inv-loop : tie.InvT-loop
-Inv-loop places first second qubits t want shun most weight₀ weight-end weight =
-    (weight ≤ weight-end) × NoneLighter first second qubits want shun weight
+Inv-loop places first second qubits least t want shun most weight₀ weight-end weight =
+    NoneLighter first second qubits want shun weight
 
 abbrev μ-loop : tie.MeasureT-loop
-μ-loop places first second qubits t want shun most weight₀ weight-end weight = weight-end - weight
+μ-loop places first second qubits least t want shun most weight₀ weight-end weight = weight-end - weight
 
 abbrev Inv-search : tie.InvT-search
-Inv-search places first second qubits t want shun most = Unit {0}
+Inv-search places first second qubits least t want shun most = Unit {0}
 
 abbrev μ-search : tie.MeasureT-search
-μ-search places first second qubits t want shun most = 0
+μ-search places first second qubits least t want shun most = 0
 
 pub lightest-spec : {M : Type 1} → statement M
 lightest-spec =
@@ -33,7 +33,7 @@ lightest-spec =
     (λ c κs. search needs)  -- smaller-requires
     (λ c. search needs)  -- search-holds
     (λ c. search needs)  -- add-weight-end
-    (λ c. (omega arith, λ v h. absurd (omega arith)))  -- loop-holds
+    (λ c. c .before .before .before .before .before .pre .1 .1 .1 .1)  -- loop-holds
     (λ c κs. search needs)  -- completion-requires
     (λ c. search needs)  -- enum-told
     (λ c. search needs)  -- enum-told-2
@@ -44,7 +44,7 @@ lightest-spec =
     let call = c .before .before in
     let loop = call .before .before in
     let none-more = found-nothing _ (sym (c .enum-told2 .given .1) ∙ call .completion .ensures) in
-    (omega arith, below-more _ _ (loop .loop .inv .1) none-more))
+    below-more _ _ (loop .loop .inv) none-more)
     -- returns
     (λ c.
     let call = c .before .before in
@@ -54,7 +54,7 @@ lightest-spec =
     c .enum-told .given .1
     ∙ found-again _ _ _ _ told
     (up-to-some (a .first .now) (a .second .now) (a .qubits) (a .t) (a .want) (a .shun) (loop .loop .weight)
-    (told .string) (omega arith) (loop .loop .inv .1) (told .told)))
+    (told .string) (omega arith) (loop .loop .inv) (told .told)))
     -- returns-2
     (λ c.
     let loop = c .before in
@@ -63,4 +63,4 @@ lightest-spec =
     nothing-found _
     (sym (up-to-all (a .first .now) (a .second .now) (a .qubits) (a .t) (a .want) (a .shun))
     ∙ up-to-none (a .first .now) (a .second .now) (a .qubits) (min (a .t) (a .qubits)) (a .want) (a .shun)
-    (loop .loop .weight) (omega (arith, few)) (loop .loop .inv .1))))
+    (loop .loop .weight) (omega (arith, few)) (loop .loop .inv))))
