@@ -1,5 +1,5 @@
-// Elimination on the rows of a record, which are added one by one to rows in reduced echelon form: each step tells what
-// the row is to those before it. 7 and 8 and the canonical generators follow from it; 15 and 6 come before them.
+// Elimination on the generators of a record: they become rows in reduced echelon form, up to the first that depends on
+// those before it. 7 and 8 and the canonical generators follow from it; 15 and 6 come before them.
 use code_record::Code;
 use independent_rows::independent_rows;
 use reduced_rows::Kind;
