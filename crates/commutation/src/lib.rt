@@ -6,43 +6,28 @@ use refusals::Family;
 use refusals::Refusal;
 ghost use mathlib.Core.List.{[]};
 ghost use mathlib.Core.Path.{_≡_};
-ghost use Prim.Native.Nat.{_<_};
-ghost use lib.ListN.{take, getD};
-ghost use Rattle.letters.specs.Lists.{anyOf};
-ghost use Rattle.pauli.specs.Product.{identity, anticommutes};
-ghost use Rattle.code_record.specs.Record.{rowRoom, generators, generatorsAt};
+ghost use Rattle.code_record.specs.Record.{generators, generatorsAt};
 ghost use Rattle.refusals.specs.Refusals.{checkedRefusal};
 ghost use Rattle.stabilizer.specs.Checks.{firstFault, clash};
 
-// Whether the generator at a place anticommutes with an earlier one.
-fn clashes(code: Code, place: usize) -> bool
-    requires { ⌜ place < rowRoom ⌝ }
-    ensures { λ r. ⌜ r ≡ anyOf (anticommutes (getD (code .g) place identity)) (take place (code .g)) ⌝ }
-{
-    let p = code.g[place];
-    let mut earlier: usize = 0;
-    while earlier < place {
-        if !p.commutes(code.g[earlier]) {
-            return true;
-        }
-        earlier += 1;
-    }
-    false
-}
-
 // Whether the generators of a record commute: 6 at the first that anticommutes with an earlier one. Where r is above
-// the room for rows, all places are tried.
+// the room for rows, all places are tried. Both loops stand here, since a record that is handed to a call is copied.
 pub fn generators_commute(code: Code) -> Checked
     ensures { λ r. ⌜ checkedRefusal r ≡ firstFault clash [] (generatorsAt code) (generators code) ⌝ }
 {
     let first = code.generators_at();
     let mut place: usize = 0;
     while place < ROW_ROOM && place < code.r {
-        if clashes(code, place) {
-            return Checked::Refused(Refusal::GeneratorsAnticommute(
-                first + place,
-                Family::Generator,
-            ));
+        let p = code.g[place];
+        let mut earlier: usize = 0;
+        while earlier < place {
+            if !p.commutes(code.g[earlier]) {
+                return Checked::Refused(Refusal::GeneratorsAnticommute(
+                    first + place,
+                    Family::Generator,
+                ));
+            }
+            earlier += 1;
         }
         place += 1;
     }

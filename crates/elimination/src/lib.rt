@@ -1,6 +1,7 @@
-// Elimination on the rows of a record, which are added one by one to rows in reduced echelon form: each step tells what
-// the row is to those before it. 7 and 8 and the canonical generators follow from it; 15 and 6 come before them.
+// Elimination on the generators of a record: they become rows in reduced echelon form, up to the first that depends on
+// those before it. 7 and 8 and the canonical generators follow from it; 15 and 6 come before them.
 use code_record::Code;
+use independent_rows::independent_rows;
 use reduced_rows::Kind;
 use reduced_rows::ReducedRows;
 use reduced_rows::kind_of;
@@ -31,34 +32,27 @@ fn refused(refusal: Refusal) -> Elimination
     }
 }
 
-// 7 and 8, over the generators of a record within limits that pass 6.
+// 7 and 8, over the generators of a record within limits that pass 6: where not all of them are independent, the first
+// that is not decides.
 fn independence(code: Code) -> Elimination
     requires { ⌜ withinLimits code ≡ true ⌝ }
     requires { ⌜ firstFault clash [] (generatorsAt code) (generators code) ≡ none ⌝ }
     ensures { λ r. ⌜ r ≡ independence code ⌝ }
 {
     let count = code.r;
-    let first = code.generators_at();
-    let mut reduced = ReducedRows::empty(code.n as u32);
-    let mut place: usize = 0;
-    while place < count {
-        let left = reduced.reduce(code.g[place]);
-        match kind_of(left) {
-            Kind::Independent => {}
-            Kind::PlusIdentity => {
-                return refused(Refusal::DependentGenerator(first + place, Family::Generator));
-            }
-            Kind::MinusIdentity => {
-                return refused(Refusal::MinusIdentity(first + place, Family::Generator));
-            }
-        }
-        reduced = elimination_step::join(reduced, left);
-        place += 1;
+    let reduced = independent_rows(code.n as u32, code.g, count);
+    let place = reduced.count;
+    if place == count {
+        return Elimination {
+            answer: Checked::Passed,
+            reduced,
+        };
     }
-    Elimination {
-        answer: Checked::Passed,
-        reduced,
-    }
+    let line = code.generators_at() + place;
+    let Kind::MinusIdentity = kind_of(reduced.reduce(code.g[place])) else {
+        return refused(Refusal::DependentGenerator(line, Family::Generator));
+    };
+    refused(Refusal::MinusIdentity(line, Family::Generator))
 }
 
 // The checks of a record's generators, and the canonical generators: 15 where the record is outside its limits, then 6

@@ -1,3 +1,1 @@
-pub mod ClearedRows
-pub mod GatheredRows
-pub mod Step
+pub mod Placing

@@ -1,5 +1,5 @@
 -- What a row is, from the masks and the phase of what is left of it.
-use mathlib.Core.Bool.{Bool, true, false, cond, _&&_, false≢true}
+use mathlib.Core.Bool.{Bool, true, false, cond, _&&_}
 use mathlib.Core.Path.{_≡_, refl, ap, sym, _∙_}
 use Prim.Native.Nat.{_%_}
 use lib.Dec.{eqb}
@@ -10,8 +10,6 @@ use Rattle.code_record.proofs.Limits.{both}
 use Rattle.code_record.proofs.Tests.{eqb-swap}
 use Rattle.stabilizer.specs.Checks.{minusIdentity}
 use Rattle.reduced_rows.specs.declared.Kind.{Kind}
-use Rattle.reduced_rows.specs.declared.Kind.the-variants.{Independent as IsIndependent, PlusIdentity}
-use Rattle.reduced_rows.specs.declared.Kind.the-variants.{MinusIdentity}
 use Rattle.reduced_rows.specs.RowKinds.{kindOf}
 
 -- Where nothing but the phase is left, the phase decides.
@@ -45,19 +43,3 @@ module _ (Q : Pauli) where
 
   pub kind-plus : sameMasks Q identity ≡ true → (Q .p % 4 ≡ 2 → ⊥) → Kind.PlusIdentity ≡ kindOf Q
   kind-plus none e = kind-of-phase none (ne-eqb 2 (Q .p % 4) (λ h. e (sym h)))
-
--- Of the three kinds, the one that leaves more than a phase.
-isNew : Kind → Bool
-isNew IsIndependent = true
-isNew PlusIdentity = false
-isNew MinusIdentity = false
-
-pub independent-left : (Q : Pauli) → kindOf Q ≡ IsIndependent → sameMasks Q identity ≡ false
-unfolding kindOf isNew
-independent-left Q = by (sameMasks Q identity) (samePauli minusIdentity Q)
-  where
-    by : (none? minus? : Bool) → cond none? (cond minus? MinusIdentity PlusIdentity) IsIndependent ≡ IsIndependent
-        → none? ≡ false
-    by true true e = absurd (false≢true (ap isNew e))
-    by true false e = absurd (false≢true (ap isNew e))
-    by false minus? e = refl

@@ -1,170 +1,192 @@
--- 7 and 8 are found at the first row that reduces to I by the rows before it: each turn adds a row to the canonical
--- generators of those before it, and what is found from here on is what is found from the beginning.
+-- 7 and 8 are found at the first row that reduces to I by the rows before it, and there the elimination stops. Where it
+-- stops behind the last row, the rows are the canonical generators.
+use mathlib.Core.Bool.{true}
 use mathlib.Core.List.{[]}
 use mathlib.Core.Option.{Option, some}
-use mathlib.Core.Path.{_≡_, refl, ap, _∙_}
-use Prim.Native.Nat.{ℕ, _+_, _-_, _^_, _<_, _≤_}
+use mathlib.Core.Path.{_≡_, refl, ap, ap₂, sym, _∙_}
+use Prim.Native.Nat.{ℕ, _+_, _<_, _≤_}
 use native.Mathlib.Omega.{arith}
-use lib.ListN.{length, take}
+use lib.ListN.{length, take, getD}
+use Rattle.pauli.specs.declared.Pauli.{Pauli}
+use Rattle.pauli.specs.Product.{identity, sameMasks}
 use Rattle.code_record.specs.declared.Code.{Code}
+use Rattle.refusals.specs.declared.Checked.{Checked}
 use Rattle.refusals.specs.declared.Refusal.{Refusal}
 use Rattle.code_record.specs.Record.{rowRoom, mostQubits, isRow, generators, generatorsAt}
 use Rattle.code_record.proofs.Limits.{limits}
 use Rattle.code_record.proofs.ArrayLengths.{sized-of}
-use Rattle.stabilizer.specs.Canonical.{canonicalGenerators}
+use Rattle.stabilizer.specs.Canonical.{reduced, reducesToIdentity, canonicalGenerators}
 use Rattle.stabilizer.specs.Checks.{firstFault, dependence}
 use Rattle.stabilizer.proofs.All.{all-of}
 use Rattle.stabilizer.proofs.Faults.{clash-free-commuting}
 use Rattle.stabilizer.proofs.Generated.{whole, Commuting}
 use Rattle.stabilizer.proofs.StabilizerRows.{Rows}
 use Rattle.reduced_rows.specs.declared.Kind.{Kind}
-use Rattle.reduced_rows.specs.Rows.{reducedOf}
-use Rattle.refusals.specs.declared.Checked.{Checked}
+use Rattle.reduced_rows.specs.declared.ReducedRows.{ReducedRows}
+use Rattle.reduced_rows.specs.RowKinds.{kindOf}
+use Rattle.reduced_rows.specs.Rows.{rowsIn, reducedOf}
+use Rattle.reduced_rows.proofs.Rows.{rows-of}
+use Rattle.independent_rows.specs.Rows.{independentRows}
 use Rattle.elimination.specs.declared.Elimination.{Elimination}
 use Rattle.elimination.specs.Answers.{eliminated, independence}
-use Rattle.elimination.proofs.Steps.{kindFault, Stepped, stepped-none, stepped-end, stepped-fault, stepped-more}
+use Rattle.elimination.proofs.Steps.{kindFault, not-minus, Stopped, stopped, stopped-count, stepped-end}
+use Rattle.elimination.proofs.Steps.{rest, stepped-fault}
 use borrow.Author.Needs.{needs}
 use Rattle.elimination.proofs.independence.Statement.{statement}
 use Rattle.elimination.proofs.independence.Tie as tie
 
-abbrev Inv-loop : tie.InvT-loop
-Inv-loop code count first reduced₀ place₀ reduced place =
-    (place ≤ count) × Stepped (code .n) first (code .g) count place reduced
+-- ---- the record
 
-abbrev μ-loop : tie.MeasureT-loop
-μ-loop code count first reduced₀ place₀ reduced place = count - place
-
--- ---- before the loop
-
-abbrev start : tie.At-loop Inv-loop μ-loop → tie.After-generators-at Inv-loop μ-loop
-start c = c .before .before
-
-module _ (c : tie.After-generators-at Inv-loop μ-loop) where
+module _ (c : tie.Start) where
   abbrev code : Code
-  code = c .before .args .t1
-
-  abbrev line : ℕ
-  line = c .generators-at .result
-
-  line-small : line ≤ 3
-  unfolding generatorsAt
-  line-small = omega (arith, c .generators-at .ensures)
+  code = c .args .t1
 
   room : (code .r ≤ length (code .g)) × (code .r < rowRoom) × (code .n ≤ mostQubits)
   room =
-      let l = limits code (c .before .pre .0) in
-      omega (arith, l .qubits, l .generatorCount, sized-of code (c .before .good .0) .roomG)
+      let l = limits code (c .pre .0) in
+      omega (arith, l .qubits, l .generatorCount, sized-of code (c .good .0) .roomG)
 
   are-rows : Rows (code .n) (take (code .r) (code .g))
-  are-rows =
-      all-of (isRow (code .n)) (take (code .r) (code .g)) .0 (limits code (c .before .pre .0) .generatorRows .used)
+  are-rows = all-of (isRow (code .n)) (take (code .r) (code .g)) .0 (limits code (c .pre .0) .generatorRows .used)
 
   commuting : Commuting whole (take (code .r) (code .g))
   unfolding generators
-  commuting = clash-free-commuting (generatorsAt code) (generators code) (c .before .pre .1)
+  commuting = clash-free-commuting (generatorsAt code) (generators code) (c .pre .1)
 
-  -- What is found by the line of the first generator, with the canonical generators, is the answer.
-  answered : {fault : Option Refusal} → fault ≡ firstFault dependence [] line (take (code .r) (code .g))
+  line-small : generatorsAt code ≤ 3
+  unfolding generatorsAt
+  line-small = omega arith
+
+  -- What is found, with the canonical generators, is the answer.
+  answered : {fault : Option Refusal} → fault ≡ firstFault dependence [] (generatorsAt code) (take (code .r) (code .g))
       → eliminated fault (code .n) (canonicalGenerators (code .n) (generators code)) ≡ independence code
   unfolding independence generators
-  answered e =
-      ap (λ fault. eliminated fault (code .n) (canonicalGenerators (code .n) (generators code)))
-      (e ∙ ap (λ at. firstFault dependence [] at (generators code)) (c .generators-at .ensures))
+  answered e = ap (λ fault. eliminated fault (code .n) (canonicalGenerators (code .n) (generators code))) e
 
--- ---- behind a row's kind
+  -- Where the elimination stops.
+  stop : Stopped (code .n) (generatorsAt code) (code .g) (code .r) (room .0) are-rows commuting
+      (independentRows (code .n) [] (take (code .r) (code .g)))
+  stop = stopped (code .n) (generatorsAt code) (code .g) (code .r) (room .0) are-rows commuting
 
-abbrev at : tie.After-kind-of Inv-loop μ-loop → tie.At-loop Inv-loop μ-loop
-at c = c .before .before .before .before
+-- ---- behind the elimination
 
-module _ (c : tie.After-kind-of Inv-loop μ-loop) where
-  abbrev s : tie.After-generators-at Inv-loop μ-loop
-  s = start (at c)
+module _ (c : tie.After-independent-rows) where
+  abbrev s : tie.Start
+  s = c .before .before
 
-  abbrev place : ℕ
-  place = at c .loop .place
+  abbrev hs : ReducedRows
+  hs = c .independent-rows .result
 
-  line-fits : line s + place < 2 ^ 32
-  line-fits = omega (arith, room s, line-small s, at c .loop .inv .0)
+  rows-are : hs ≡ reducedOf (code s .n) (canonicalGenerators (code s .n) (take (stop s .place) (code s .g)))
+  rows-are = c .independent-rows .ensures ∙ ap (reducedOf (code s .n)) (stop s .held)
 
-  faulty : {kind : Kind} {refusal : Refusal} {result : Elimination} → c .kind-of .result ≡ kind
-      → kindFault (line s + place) kind ≡ some refusal → result ≡ eliminated (some refusal) 0 []
-      → result ≡ independence (code s)
+  count-is : hs .count ≡ stop s .place
+  unfolding reducedOf
+  count-is =
+      ap (λ r. r .count) (c .independent-rows .ensures)
+      ∙ stopped-count (code s .n) (generatorsAt (code s)) (code s .g) (code s .r) (room s .0) (are-rows s) (commuting s)
+      (stop s)
+
+-- ---- at the row that depends on those before it
+
+module _ (c : tie.Else1) where
+  abbrev start : tie.Start
+  start = s (c .before)
+
+  few : stop start .place < code start .r
+  few = omega (arith, c .if1 .left, count-is (c .before), stop start .within)
+
+  small : (hs (c .before) .count < rowRoom) × (hs (c .before) .count < 32)
+  small = omega (arith, few, room start, count-is (c .before))
+
+module _ (c : tie.After-kind-of) where
+  abbrev other : tie.Else1
+  other = c .before .before .before .before
+
+  abbrev row : tie.Start
+  row = start other
+
+  abbrev left : Pauli
+  left = rest (code row .n) (generatorsAt (code row)) (code row .g) (code row .r) (room row .0) (are-rows row)
+      (commuting row) (stop row .stepped) (few other)
+
+  left-is : c .before .reduce .result ≡ left
+  unfolding reducedOf
+  left-is =
+      let n = code row .n in
+      let hs = canonicalGenerators n (take (stop row .place) (code row .g)) in
+      c .before .reduce .ensures
+      ∙ ap₂ (λ r (i : ℕ). reduced (r .n) (rowsIn r) (getD (code row .g) i identity)) (rows-are (other .before))
+      (count-is (other .before))
+      ∙ ap (λ hs. reduced n hs (getD (code row .g) (stop row .place) identity)) (rows-of n hs)
+
+  told : c .kind-of .result ≡ kindOf left
+  told = c .kind-of .ensures ∙ ap kindOf left-is
+
+  phase : sameMasks left identity ≡ true
+  unfolding reducesToIdentity
+  phase = stop row .stops (few other)
+
+  line-is : generatorsAt (code row) + stop row .place
+      ≡ c .before .before .before .generators-at .result + hs (other .before) .count
+  line-is =
+      ap₂ (λ (line place : ℕ). line + place) (sym (c .before .before .before .generators-at .ensures))
+      (sym (count-is (other .before)))
+
+  faulty : {kind : Kind} {refusal : Refusal} {result : Elimination} → kindOf left ≡ kind
+      → kindFault (c .before .before .before .generators-at .result + hs (other .before) .count) kind ≡ some refusal
+      → result ≡ eliminated (some refusal) 0 [] → result ≡ independence (code row)
   unfolding eliminated
-  faulty e f r =
-      r ∙ answered s (stepped-fault (code s .n) (line s) (code s .g) (code s .r) (at c .loop .inv .1) (room s .0)
-      (are-rows s) (commuting s) (c .before .before .before .loop-test .taken) _ refl (c .before .reduce .ensures)
-      (c .kind-of .ensures) e f)
+  faulty {kind} e f r =
+      r ∙ answered row (stepped-fault (code row .n) (generatorsAt (code row)) (code row .g) (code row .r) (room row .0)
+      (are-rows row) (commuting row) (stop row .stepped) (few other) e
+      (ap (λ (line : ℕ). kindFault line kind) line-is ∙ f))
 
 -- ---- the needs
 
-cast-empty : tie.Need-cast-empty Inv-loop μ-loop
-cast-empty c = let few = room c in record { fits = omega (arith, few) }
+cast-independent-rows : tie.Need-cast-independent-rows
+cast-independent-rows c = record { fits = omega (arith, room c) }
 
-loop-holds : tie.Need-loop-holds Inv-loop μ-loop
-loop-holds c = (search needs, stepped-none _ _ _ _ _ (c .empty .ensures))
-
-mul-reduce : tie.Need-mul-reduce Inv-loop μ-loop
-mul-reduce c = let few = room (start (c .before)) in search needs
-
-element-copy-out-reduce : tie.Need-element-copy-out-reduce Inv-loop μ-loop
-element-copy-out-reduce c = let few = room (start (c .before)) in omega (arith, few, c .loop-test .taken)
-
-returns : tie.Need-returns Inv-loop μ-loop
-returns c = let told = c .before in
-    faulty (told .before .before) (told .enum-told2 .given .1) refl (c .refused .ensures)
-
-returns-2 : tie.Need-returns-2 Inv-loop μ-loop
-returns-2 c = let told = c .before in
-    faulty (told .before .before) (told .enum-told3 .given .1) refl (c .refused2 .ensures)
-
-loop-again : tie.Need-loop-again Inv-loop μ-loop
-loop-again c =
-    let told = c .before in
-    let here = told .before .before in
-    let code = code (s here) in (
-      search needs,
-      stepped-more (code .n) (line (s here)) (code .g) (code .r) (at here .loop .inv .1) (room (s here) .0)
-          (are-rows (s here)) (commuting (s here)) (here .before .before .before .loop-test .taken) _ refl
-          (here .before .reduce .ensures) (here .kind-of .ensures) (omega (arith, room (s here) .1))
-          (told .enum-told .given .1) (c .join .ensures),
-    )
-
-returns-3 : tie.Need-returns-3 Inv-loop μ-loop
+returns : tie.Need-returns
 unfolding eliminated generators
-returns-3 c =
-    let loop = c .before in
-    let s = start loop in
+returns c =
+    let s = s (c .before) in
     let n = code s .n in
-    let all : loop .loop .place ≡ code s .r = omega (arith, loop .loop .inv .0, c .loop-test .left) in
+    let all : stop s .place ≡ code s .r = sym (count-is (c .before)) ∙ c .if1 .taken in
     ap (λ hs. record { answer = Checked.Passed; reduced = hs })
-    (loop .loop .inv .1 .held ∙ ap (λ (i : ℕ). reducedOf n (canonicalGenerators n (take i (code s .g)))) all)
-    ∙ answered s (stepped-end n (line s) (code s .g) (code s .r) (loop .loop .inv .1) (c .loop-test .left))
+    (rows-are (c .before) ∙ ap (λ (i : ℕ). reducedOf n (canonicalGenerators n (take i (code s .g)))) all)
+    ∙ answered s (stepped-end n (generatorsAt (code s)) (code s .g) (code s .r) (stop s .stepped) (omega arith))
+
+add-line : tie.Need-add-line
+add-line c =
+    let few = small (c .before) in
+    record { fits = omega (arith, line-small (start (c .before)), c .generators-at .ensures) }
+
+returns-2 : tie.Need-returns-2
+returns-2 c =
+    let kind = c .before .before in
+    faulty kind (not-minus (left kind) (phase kind) (told kind) (c .before .match .keys2)) refl (c .refused .ensures)
+
+returns-3 : tie.Need-returns-3
+returns-3 c =
+    let kind = c .before .before .before in
+    faulty kind (sym (told kind) ∙ c .before .enum-told .given .1) refl (c .refused2 .ensures)
 
 pub independence-spec : {M : Type 1} → statement M
 independence-spec =
     tie.close
     (tie.spec
-    Inv-loop
-    μ-loop
-    (λ c κs. search needs)
-    cast-empty
-    (λ c κs. search needs)
-    loop-holds
-    mul-reduce
-    element-copy-out-reduce
-    (λ c κs. search needs)
-    (λ c κs. search needs)
-    (λ c. search needs)
-    (λ c. search needs)
-    (λ c. record { fits = omega (arith, line-fits (c .before .before)) })
+    cast-independent-rows
     (λ c κs. search needs)
     returns
+    (λ c κs. search needs)
+    add-line
+    (λ c. let few = small (c .before) in search needs)
+    (λ c. let few = small (c .before) in search needs)
+    (λ c κs. search needs)
+    (λ c κs. search needs)
     (λ c. search needs)
-    (λ c. record { fits = omega (arith, line-fits (c .before .before)) })
     (λ c κs. search needs)
     returns-2
     (λ c κs. search needs)
-    (λ c. search needs)
-    (λ c. search needs)
-    loop-again
     returns-3)
