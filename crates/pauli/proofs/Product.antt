@@ -25,14 +25,15 @@ pauli p a b = record { p = p; a = a; b = b }
 pub same-parts : (P Q : Pauli) → P .p ≡ Q .p → P .a ≡ Q .a → P .b ≡ Q .b → P ≡ Q
 same-parts P Q p a b = ap (λ (x : ℕ). pauli x (P .a) (P .b)) p ∙ ap₂ (pauli (Q .p)) a b
 
--- The product as a machine computes it, with the phases read modulo 4 as they come in.
+-- The product as a machine computes it, with the phases read modulo 4 and the count modulo 2 as they come in.
 pub product-computed : (P Q : Pauli)
-    → pauli ((P .p % 4 + Q .p % 4 + 2 * ones (bitAnd (P .b) (Q .a))) % 4) (bitXor (P .a) (Q .a)) (bitXor (P .b) (Q .b))
+    → pauli ((P .p % 4 + Q .p % 4 + 2 * (ones (bitAnd (P .b) (Q .a)) % 2)) % 4) (bitXor (P .a) (Q .a))
+    (bitXor (P .b) (Q .b))
     ≡ product P Q
 unfolding product
 product-computed P Q =
     ap (λ (x : ℕ). pauli x (bitXor (P .a) (Q .a)) (bitXor (P .b) (Q .b)))
-    (same-remainder 4 _ _ (P .p / 4 + Q .p / 4) 0 (omega (arith, dot-ones (P .b) (Q .a))))
+    (same-remainder 4 _ _ (P .p / 4 + Q .p / 4 + dot (P .b) (Q .a) / 2) 0 (omega (arith, dot-ones (P .b) (Q .a))))
 
 -- ---- a group
 

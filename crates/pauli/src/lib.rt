@@ -21,11 +21,12 @@ impl Pauli {
         Pauli { p: 0, a: 0, b: 0 }
     }
 
+    // Twice a count is read modulo 4, so only the count's parity is needed, which is cheaper.
     pub fn product(self, q: Pauli) -> Pauli
         ensures { λ r. ⌜ r ≡ product self q ⌝ }
     {
         Pauli {
-            p: (self.p % 4 + q.p % 4 + 2 * u32::count_ones(self.b & q.a)) % 4,
+            p: (self.p % 4 + q.p % 4 + 2 * (u32::count_ones(self.b & q.a) % 2)) % 4,
             a: self.a ^ q.a,
             b: self.b ^ q.b,
         }
