@@ -12,4 +12,4 @@ returns-2 c =
     (sym (no-high-bits 32 (c .before .args .m) (c .before .args .place) (search needs) (search needs)))
 
 pub bit-spec : {M : Type 1} → statement M
-bit-spec = tie.close (tie.spec (λ c. search needs) (λ c. search needs) (λ c. search needs) returns-2)
+bit-spec = tie.close (tie.spec (λ c. search needs) (λ c. search needs) returns-2)
