@@ -1,5 +1,5 @@
-// The checks 9 and 10 of a record's logicals. The record goes by value, which copies it, so each check reads its rows
-// in two loops of its own and calls nothing that takes the record.
+// The checks of a record's logicals: 9, then 10 (`logical_pairs`). The record goes by value, which copies it, so a
+// check reads the rows in loops of its own, which call nothing that takes the record.
 use code_record::Code;
 use code_record::pair_count;
 use logical_pairs::first_unpaired;

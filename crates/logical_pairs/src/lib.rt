@@ -6,9 +6,7 @@ use code_record::pair_count;
 ghost use mathlib.Core.Path.{_≡_};
 ghost use Prim.Native.Nat.{min};
 ghost use Rattle.code_record.specs.Record.{rowRoom};
-ghost use Rattle.refusals.specs.declared.Refusal.the-variants.{LogicalPairing};
-ghost use Rattle.admission.specs.Logicals.{pairingFault};
-ghost use Rattle.logical_pairs.specs.FaultAt.{faultAt};
+ghost use Rattle.logical_pairs.specs.FirstPlace.{firstUnpaired};
 
 // How many x rows the array of a record holds, and so many z rows: one for each pair, or all places where there are
 // more.
@@ -24,7 +22,7 @@ fn x_count(pairs: usize) -> usize
 // The place of the first logical that pairs wrongly with an earlier one: it commutes with its partner, which stands as
 // many places before it as there are pairs, or anticommutes with another. That behind the last where none does.
 pub fn first_unpaired(code: Code) -> usize
-    ensures { λ r. ⌜ faultAt LogicalPairing code r ≡ pairingFault code ⌝ }
+    ensures { λ r. ⌜ r ≡ firstUnpaired code ⌝ }
 {
     let pairs = pair_count(code.n, code.r);
     let xs = x_count(pairs);

@@ -15,6 +15,8 @@ use Rattle.refusals.specs.declared.Refusal.the-variants.{LogicalAnticommutes, L
 use Rattle.refusals.specs.Refusals.{_then_}
 use Rattle.admission.specs.Logicals.{familyAt, detectedFault, pairingFault}
 use Rattle.logical_pairs.specs.FaultAt.{faultAt}
+use Rattle.logical_pairs.specs.FirstPlace.{firstUnpaired}
+use Rattle.logical_pairs.proofs.FirstFault.{pairing-fault-is-at-first}
 use Rattle.logical_pairs.proofs.Faults.{fault-inside, fault-behind}
 use Rattle.logical_checks.proofs.Detected.{Within, within}
 use borrow.Author.Needs.{needs}
@@ -70,6 +72,11 @@ module _ (c : tie.After-generators-at) where
         let none-found = fault-behind LogicalAnticommutes (counted .known) place behind ∙ known in
         ap (λ fault. fault then pairingFault code) none-found ∙ within-later code _ limited
 
+  -- The place at which 10 is found.
+  ten-told : {place : ℕ} → place ≡ firstUnpaired code → faultAt LogicalPairing code place ≡ pairingFault code
+  ten-told at =
+      ap (faultAt LogicalPairing code) at ∙ pairing-fault-is-at-first code (counted .known .sized)
+
 -- ---- the needs
 
 returns : tie.Need-returns
@@ -93,16 +100,18 @@ returns-3 : tie.Need-returns-3
 returns-3 c =
     let ten = c .before .before .first-unpaired in
     let passed = c .before .before .before in
-    named (start (passed .before)) LogicalPairing (ten .result) (c .before .if3 .taken) (c .family-at2 .ensures)
-    ∙ ten .ensures
+    let s = start (passed .before) in
+    named s LogicalPairing (ten .result) (c .before .if3 .taken) (c .family-at2 .ensures)
+    ∙ ten-told s (ten .ensures)
     ∙ none-detected passed
 
 returns-4 : tie.Need-returns-4
 returns-4 c =
     let ten = c .before .first-unpaired in
     let passed = c .before .before in
-    fault-behind LogicalPairing (counted (start (passed .before)) .known) (ten .result) (c .if3 .left)
-    ∙ ten .ensures
+    let s = start (passed .before) in
+    fault-behind LogicalPairing (counted s .known) (ten .result) (c .if3 .left)
+    ∙ ten-told s (ten .ensures)
     ∙ none-detected passed
 
 add-line : (c : tie.After-generators-at) {place : ℕ} → place < 2 * pairs c → first c + place ≤ 72

@@ -6,14 +6,16 @@ use mathlib.Core.Path.{_≡_, refl, ap, sym, _∙_}
 use Prim.Native.Nat.{_+_, _-_, _*_, _<_}
 use native.Mathlib.Omega.{arith}
 use lib.Dec.{eqb}
-use lib.ListN.{take, getD}
+use lib.ListN.{length, take, getD}
 use Rattle.pauli.specs.Product.{identity, commutes}
 use Rattle.code_record.specs.declared.Code.{Code}
 use Rattle.code_record.proofs.ArrayLengths.{sized-of}
 use Rattle.admission.specs.Logicals.{logicals, pairsWrongly}
 use Rattle.logical_pairs.proofs.LogicalPlaces.{Known, known, Logical, logicals-length}
 use Rattle.logical_pairs.proofs.LogicalPlaces.{x-at, z-at, before-length}
-use Rattle.logical_pairs.proofs.Faults.{Ten, ten-first, ten-found, ten-passed, ten-end}
+use Rattle.logical_pairs.specs.FirstPlace.{firstPlace, unpairedAt, firstUnpaired}
+use Rattle.logical_pairs.proofs.FirstFault.{unpaired-told}
+use Rattle.logical_pairs.proofs.Places.{PlaceFrom, place-here, place-later, place-end}
 use Rattle.logical_pairs.proofs.Pairs.{WrongFrom, wrong-at, wrong-end}
 use borrow.Author.Needs.{needs}
 use Rattle.logical_pairs.proofs.first_unpaired.Statement.{statement}
@@ -28,7 +30,8 @@ abbrev μ-loop2 : tie.MeasureT-loop2
 μ-loop2 code pairs xs place p earlier₀ earlier = place - earlier
 
 abbrev Inv-loop : tie.InvT-loop
-Inv-loop code pairs xs place₀ place = Known code pairs xs × Ten code xs place
+Inv-loop code pairs xs place₀ place =
+    Known code pairs xs × (PlaceFrom (unpairedAt code) place (2 * xs) ≡ firstUnpaired code)
 
 abbrev μ-loop : tie.MeasureT-loop
 μ-loop code pairs xs place₀ place = 2 * xs - place
@@ -77,11 +80,13 @@ module _ (c : tie.After-commutes Inv-loop2 μ-loop2 Inv-loop μ-loop) where
 -- ---- the needs
 
 loop-holds : tie.Need-loop-holds Inv-loop2 μ-loop2 Inv-loop μ-loop
+unfolding firstUnpaired
 loop-holds c =
     let s = c .before .before in
     let code = s .args .t1 in
     let k = known code (sized-of code (s .good .0)) (c .before .pair-count .ensures) (c .x-count .ensures) in
-    (k, ten-first k)
+    let all : 2 * c .x-count .result - 0 ≡ length (logicals code) = omega (arith, logicals-length k) in
+    (k, ap (firstPlace (unpairedAt code) 0) all)
 
 loop2-holds : tie.Need-loop2-holds Inv-loop2 μ-loop2 Inv-loop μ-loop
 loop2-holds c =
@@ -100,7 +105,10 @@ loop2-holds c =
 returns : tie.Need-returns Inv-loop2 μ-loop2 Inv-loop μ-loop
 returns c =
     let tried = tried (c .before) in
-    ten-found (tried .loop2 .inv .0) (here (c .before) (c .if3 .taken)) (at tried .loop .inv .1)
+    let logical = tried .loop2 .inv .0 in
+    place-here (unpairedAt (code (c .before))) (at tried .loop .place) _
+    (unpaired-told logical (here (c .before) (c .if3 .taken))) (logical .within)
+    ∙ at tried .loop .inv .1
 
 loop2-again : tie.Need-loop2-again Inv-loop2 μ-loop2 Inv-loop μ-loop
 loop2-again c = (tried (c .before) .loop2 .inv .0, here (c .before) (c .if3 .left))
@@ -112,13 +120,17 @@ loop-again c =
     let place = at tried .loop .place in
     let before = before-length (inv .0 .known) place (inv .0 .within) in (
       inv .0 .known,
-      ten-passed (inv .0)
-          (wrong-end _ place (tried .loop2 .earlier) _ _ (omega (arith, c .loop2-test .left, before)) ∙ inv .1)
-          (at tried .loop .inv .1),
+      place-later _ place _
+          (unpaired-told (inv .0) (wrong-end _ place (tried .loop2 .earlier) _ _
+          (omega (arith, c .loop2-test .left, before)) ∙ inv .1)) (inv .0 .within)
+          ∙ at tried .loop .inv .1,
     )
 
 returns-2 : tie.Need-returns-2 Inv-loop2 μ-loop2 Inv-loop μ-loop
-returns-2 c = let loop = c .before .loop in ten-end (loop .inv .0) (loop .place) (c .loop-test .left) (loop .inv .1)
+returns-2 c =
+    let loop = c .before .loop in
+    place-end (unpairedAt (c .before .before .before .before .args .t1)) (loop .place) _ (c .loop-test .left)
+    ∙ loop .inv .1
 
 pub first-unpaired-spec : {M : Type 1} → statement M
 first-unpaired-spec =
