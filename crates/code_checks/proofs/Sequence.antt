@@ -12,23 +12,14 @@ module _ (fault next : Option Refusal) {checked : Checked} (known : checkedRefus
   refused-first told =
       ap checkedRefusal told ∙ ap (λ f. f then next) (ap checkedRefusal (sym told) ∙ known)
 
-  pub none-told : checked ≡ Checked.Passed → fault ≡ none
-  none-told told = sym known ∙ ap checkedRefusal told
-
   pub passed-first : checked ≡ Checked.Passed → next ≡ (fault then next)
   unfolding _then_
-  passed-first told = ap (λ f. f then next) (sym (none-told told))
+  passed-first told = ap (λ f. f then next) (ap checkedRefusal (sym told) ∙ known)
 
 pub then-assoc : (a b c : Option Refusal) → ((a then b) then c) ≡ (a then b then c)
 unfolding _then_
 then-assoc none b c = refl
 then-assoc (some refusal) b c = refl
-
--- Where a and b pass, what is asked again of a passes again.
-pub asked-again : (a b c : Option Refusal) → (a then b) ≡ none → (a then c) ≡ (a then b then c)
-unfolding _then_
-asked-again none b c e = ap (λ f. f then c) (sym e)
-asked-again (some refusal) b c e = refl
 
 pub first-none : (a b : Option Refusal) → (a then b) ≡ none → a ≡ none
 unfolding _then_

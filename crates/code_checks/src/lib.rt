@@ -4,7 +4,6 @@ use claim_checks::check_claim;
 use code_record::Code;
 use distance::check_distance;
 use elimination::eliminate;
-use logical_checks::LogicalCheck;
 use logical_checks::check_logicals;
 use reduced_rows::ReducedRows;
 use refusals::Checked;
@@ -12,20 +11,8 @@ ghost use mathlib.Core.Path.{_≡_};
 ghost use Rattle.code_record.specs.Record.{limitsFault};
 ghost use Rattle.refusals.specs.Refusals.{checkedRefusal, _then_};
 ghost use Rattle.admission.specs.Admission.{codeFault};
-ghost use Rattle.admission.specs.Logicals.{detectedFault, pairingFault};
 ghost use Rattle.claim_checks.specs.Claim.{claimFault};
 ghost use Rattle.distance.specs.Search.{distanceBy};
-
-// 9, then 10.
-fn commute_and_pair(code: Code) -> Checked
-    ensures { λ r. ⌜ checkedRefusal r ≡ (limitsFault code then detectedFault code then pairingFault code) ⌝ }
-{
-    let answer = check_logicals(code, LogicalCheck::Commute);
-    let Checked::Passed = answer else {
-        return answer;
-    };
-    check_logicals(code, LogicalCheck::Pair)
-}
 
 // 11 to 13, then 14.
 fn claim_and_distance(code: Code, reduced: ReducedRows, at: usize) -> Checked
@@ -47,7 +34,7 @@ pub fn check_code(code: Code, at: usize) -> Checked
     let Checked::Passed = answer else {
         return answer;
     };
-    let logicals = commute_and_pair(code);
+    let logicals = check_logicals(code);
     let Checked::Passed = logicals else {
         return logicals;
     };

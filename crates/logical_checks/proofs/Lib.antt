@@ -1,2 +1,2 @@
-pub mod FaultAt
+pub mod Detected
 pub mod Numbers

@@ -1,2 +1,1 @@
-pub mod LogicalChecks
 pub mod Statements

@@ -7,11 +7,10 @@ use Rattle.refusals.specs.Refusals.{_then_}
 use Rattle.code_record.specs.declared.Code.{Code}
 use Rattle.code_record.specs.Record.{limitsFault}
 use Rattle.sheet.specs.Statements.{Among}
-use Rattle.logical_checks.specs.declared.LogicalCheck.{LogicalCheck}
-use Rattle.logical_checks.specs.LogicalChecks.{checkNumber, logicalFault}
+use Rattle.admission.specs.Logicals.{detectedFault, pairingFault}
 
 -- RULES, "Refusals": the numbers with which the call refuses.
 abbrev pub LogicalRefusalNumbers : Type 0
 LogicalRefusalNumbers =
-    (check : LogicalCheck) (c : Code) (refusal : Refusal) → (limitsFault c then logicalFault check c) ≡ some refusal
-    → Among (checkNumber check ∷ 15 ∷ []) refusal
+    (c : Code) (refusal : Refusal) → (limitsFault c then detectedFault c then pairingFault c) ≡ some refusal
+    → Among (9 ∷ 10 ∷ 15 ∷ []) refusal

@@ -1,68 +1,76 @@
-// The checks 9 and 10 of a record's logicals, which are tried in turn.
+// The checks of a record's logicals: 9, then 10 (`logical_pairs`). The record goes by value, which copies it, so a
+// check reads the rows in loops of its own, which call nothing that takes the record.
 use code_record::Code;
-use logical_pairs::pairs_wrongly;
-use logical_rows::logical_family;
-use logical_rows::logical_row;
-use logical_rows::logical_row_count;
+use code_record::pair_count;
+use logical_pairs::first_unpaired;
 use refusals::Checked;
 use refusals::Family;
 use refusals::Refusal;
-use syndrome_mask::syndrome_mask;
 ghost use mathlib.Core.Bool.{true};
 ghost use mathlib.Core.Path.{_≡_};
 ghost use Rattle.code_record.specs.Record.{withinLimits, limitsFault};
 ghost use Rattle.refusals.specs.Refusals.{checkedRefusal, _then_};
-ghost use Rattle.logical_checks.specs.LogicalChecks.{logicalFault, faultyAt, refusalAt};
+ghost use Rattle.refusals.specs.declared.Refusal.the-variants.{LogicalAnticommutes};
+ghost use Rattle.admission.specs.Logicals.{familyAt, detectedFault, pairingFault};
+ghost use Rattle.logical_pairs.specs.FaultAt.{faultAt};
 
-pub enum LogicalCheck {
-    // 9: every logical commutes with the generators.
-    Commute,
-    // 10: partners anticommute, and all other logicals commute.
-    Pair,
-}
-
-// Whether the logical at a place is at fault.
-fn faulty(code: Code, check: LogicalCheck, place: usize) -> bool
-    ensures { λ r. ⌜ r ≡ faultyAt check code place ⌝ }
+// The family of the logical at a place, which counts from 0: the x rows come first.
+fn family_at(pairs: usize, place: usize) -> Family
+    ensures { λ r. ⌜ r ≡ familyAt pairs place ⌝ }
 {
-    match check {
-        LogicalCheck::Commute => syndrome_mask(code, logical_row(code, place)) != 0,
-        LogicalCheck::Pair => pairs_wrongly(code, place),
+    if place < pairs {
+        return Family::LogicalX;
     }
+    Family::LogicalZ
 }
 
-fn refusal(check: LogicalCheck, line: usize, family: Family) -> Refusal
-    ensures { λ r. ⌜ r ≡ refusalAt check line family ⌝ }
-{
-    match check {
-        LogicalCheck::Commute => Refusal::LogicalAnticommutes(line, family),
-        LogicalCheck::Pair => Refusal::LogicalPairing(line, family),
-    }
-}
-
-// The first fault of the logicals of a record within limits.
-fn first_fault(code: Code, check: LogicalCheck) -> Checked
+// The place of the first logical that anticommutes with a generator; that behind the last logical where all commute.
+fn first_detected(code: Code) -> usize
     requires { ⌜ withinLimits code ≡ true ⌝ }
-    ensures { λ r. ⌜ checkedRefusal r ≡ logicalFault check code ⌝ }
+    ensures { λ r. ⌜ faultAt LogicalAnticommutes code r ≡ detectedFault code ⌝ }
 {
-    let first = code.generators_at() + code.r;
-    let count = logical_row_count(code);
+    let pairs = pair_count(code.n, code.r);
     let mut place: usize = 0;
-    while place < count {
-        if faulty(code, check, place) {
-            return Checked::Refused(refusal(check, first + place, logical_family(code, place)));
+    while place < 2 * pairs {
+        let p = if place < pairs {
+            code.x[place]
+        } else {
+            code.z[place - pairs]
+        };
+        let mut row: usize = 0;
+        while row < code.r {
+            if !p.commutes(code.g[row]) {
+                return place;
+            }
+            row += 1;
         }
         place += 1;
     }
-    Checked::Passed
+    place
 }
 
-// One check of the logicals: 15 where the record is outside its limits, then 9 or 10 at the first logical at fault.
-pub fn check_logicals(code: Code, check: LogicalCheck) -> Checked
-    ensures { λ r. ⌜ checkedRefusal r ≡ (limitsFault code then logicalFault check code) ⌝ }
+// The checks of the logicals: 15 where the record is outside its limits, then 9 over all logicals, then 10.
+pub fn check_logicals(code: Code) -> Checked
+    ensures { λ r. ⌜ checkedRefusal r ≡ (limitsFault code then detectedFault code then pairingFault code) ⌝ }
 {
     if !record_limits::within_limits(code) {
         return Checked::Refused(Refusal::RecordLimits);
     }
-    first_fault(code, check)
+    let pairs = pair_count(code.n, code.r);
+    let first = code.generators_at() + code.r;
+    let detected = first_detected(code);
+    if detected < 2 * pairs {
+        return Checked::Refused(Refusal::LogicalAnticommutes(
+            first + detected,
+            family_at(pairs, detected),
+        ));
+    }
+    let unpaired = first_unpaired(code);
+    if unpaired < 2 * pairs {
+        return Checked::Refused(Refusal::LogicalPairing(
+            first + unpaired,
+            family_at(pairs, unpaired),
+        ));
+    }
+    Checked::Passed
 }

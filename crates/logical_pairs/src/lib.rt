@@ -1,43 +1,52 @@
-// How one logical of a record pairs with those before it. Partners anticommute, and all others commute.
+// Check 10 over the logicals of a record, the x rows and then the z rows: partners anticommute, and all others commute.
+// The record goes by value, which copies it, so the rows are read in the loops themselves.
 use code_record::Code;
+use code_record::ROW_ROOM;
 use code_record::pair_count;
-use logical_rows::logical_row;
-use logical_rows::logical_row_count;
 ghost use mathlib.Core.Path.{_≡_};
-ghost use lib.ListN.{length, take, getD};
-ghost use Rattle.pauli.specs.Product.{identity};
-ghost use Rattle.code_record.specs.Record.{logicalCount};
-ghost use Rattle.admission.specs.Logicals.{logicals, pairsWrongly};
+ghost use Prim.Native.Nat.{min};
+ghost use Rattle.code_record.specs.Record.{rowRoom};
+ghost use Rattle.logical_pairs.specs.FirstPlace.{firstUnpaired};
 
-// How many logicals stand before a place: all of them, where it is behind the last.
-fn earlier_count(code: Code, place: usize) -> usize
-    ensures { λ r. ⌜ r ≡ length (take place (logicals code)) ⌝ }
+// How many x rows the array of a record holds, and so many z rows: one for each pair, or all places where there are
+// more.
+fn x_count(pairs: usize) -> usize
+    ensures { λ r. ⌜ r ≡ min pairs rowRoom ⌝ }
 {
-    let count = logical_row_count(code);
-    if place < count {
-        return place;
+    if pairs < ROW_ROOM {
+        return pairs;
     }
-    count
+    ROW_ROOM
 }
 
-// Whether the logical at a place pairs wrongly with an earlier one: it commutes with its partner, which stands as many
-// places before it as there are pairs, or anticommutes with another. Behind the last logical the row is +I.
-pub fn pairs_wrongly(code: Code, place: usize) -> bool
-    ensures { λ r. ⌜
-        r ≡ pairsWrongly (logicalCount code) place 0 (take place (logicals code))
-        (getD (logicals code) place identity)
-        ⌝ }
+// The place of the first logical that pairs wrongly with an earlier one: it commutes with its partner, which stands as
+// many places before it as there are pairs, or anticommutes with another. That behind the last where none does.
+pub fn first_unpaired(code: Code) -> usize
+    ensures { λ r. ⌜ r ≡ firstUnpaired code ⌝ }
 {
     let pairs = pair_count(code.n, code.r);
-    let count = earlier_count(code, place);
-    let p = logical_row(code, place);
-    let mut earlier: usize = 0;
-    while earlier < count {
-        let partner = place - earlier == pairs;
-        if p.commutes(logical_row(code, earlier)) == partner {
-            return true;
+    let xs = x_count(pairs);
+    let mut place: usize = 0;
+    while place < 2 * xs {
+        let p = if place < xs {
+            code.x[place]
+        } else {
+            code.z[place - xs]
+        };
+        let mut earlier: usize = 0;
+        while earlier < place {
+            let q = if earlier < xs {
+                code.x[earlier]
+            } else {
+                code.z[earlier - xs]
+            };
+            let partner = place - earlier == pairs;
+            if p.commutes(q) == partner {
+                return place;
+            }
+            earlier += 1;
         }
-        earlier += 1;
+        place += 1;
     }
-    false
+    place
 }

@@ -15,7 +15,7 @@ returns-2 c =
     let told = c .before .before .before in
     let a = told .before .before .before .args in
     logicals-refused (a .at) (a .code) (told .before .before .eliminate .ensures) (told .enum-told .given .1)
-    (c .before .before .commute-and-pair .result) (c .before .before .commute-and-pair .ensures)
+    (c .before .before .check-logicals .result) (c .before .before .check-logicals .ensures)
     (c .enum-told4 .given .1)
 
 returns-3 : tie.Need-returns-3
@@ -25,7 +25,7 @@ returns-3 c =
     let a = told .before .before .before .args in
     c .claim-and-distance .ensures
     ∙ weights-decide (a .at) (a .code) (told .before .before .eliminate .ensures) (told .enum-told .given .1)
-    (second .before .before .commute-and-pair .result) (second .before .before .commute-and-pair .ensures)
+    (second .before .before .check-logicals .result) (second .before .before .check-logicals .ensures)
     (second .enum-told3 .given .1)
 
 pub check-code-spec : {M : Type 1} → statement M

@@ -1,0 +1,3 @@
+pub mod FaultAt
+pub mod FirstPlace
+pub mod Statements
