@@ -2,16 +2,15 @@
 -- generators in turn.
 use mathlib.Core.Bool.{not}
 use mathlib.Core.Logic.{⊎-elim}
-use mathlib.Core.Path.{_≡_, refl, ap, sym, _∙_}
-use Prim.Native.Nat.{_-_, _*_, _<_}
+use mathlib.Core.Path.{_≡_, ap, sym, _∙_}
+use Prim.Native.Nat.{_-_, _*_}
 use native.Mathlib.Omega.{arith}
-use lib.ListN.{length, drop, getD}
-use Rattle.letters.specs.Lists.{anyOf}
+use lib.ListN.{getD}
 use Rattle.pauli.specs.Product.{identity, anticommutes}
 use Rattle.code_record.specs.declared.Code.{Code}
 use Rattle.code_record.specs.Record.{generators}
 use Rattle.code_record.proofs.ArrayLengths.{sized-of}
-use Rattle.commutation.proofs.AnyRow.{any-here, any-later, any-none}
+use Rattle.commutation.proofs.AnyRow.{Tried, tried-none, tried-all, tried-passes, tried-more}
 use Rattle.logical_pairs.proofs.LogicalPlaces.{Logical, x-at, z-at}
 use Rattle.logical_checks.proofs.Detected.{Within, within, Nine, nine-first, nine-found, nine-passed, nine-end}
 use borrow.Author.Needs.{needs}
@@ -22,7 +21,7 @@ abbrev Inv-loop2 : tie.InvT-loop2
 Inv-loop2 code pairs place p row₀ row =
     Within code pairs
     × Logical code pairs pairs place p
-    × (anyOf (anticommutes p) (drop row (generators code)) ≡ anyOf (anticommutes p) (generators code))
+    × Tried (anticommutes p) (code .g) (code .r) row
 
 abbrev μ-loop2 : tie.MeasureT-loop2
 μ-loop2 code pairs place p row₀ row = code .r - row
@@ -44,11 +43,6 @@ code c = at c .before .before .args .t1
 module _ (c : tie.After-commutes Inv-loop2 μ-loop2 Inv-loop μ-loop) where
   abbrev turn : tie.In-loop2 Inv-loop2 μ-loop2 Inv-loop μ-loop
   turn = c .before .before
-
-  inside : turn .before .loop2 .row < length (code (turn .before) .g)
-  inside =
-      let w = turn .before .loop2 .inv .0 in
-      omega (arith, turn .loop2-test .taken, w .fewRows, w .known .sized .roomG)
 
   tested : anticommutes (turn .before .before .if1 .p)
       (getD (code (turn .before) .g) (turn .before .loop2 .row) identity)
@@ -76,7 +70,7 @@ loop2-holds c =
         row = ⊎-elim (λ w. w .2 ∙ x-at k (loop .place) (w .0 .taken))
             (λ w. w .2 ∙ z-at k (loop .place) (w .0 .left) inside) (c .if1 .came);
       },
-      refl,
+      tried-none _ (c .before .before .before .before .args .t1 .g) _ (omega (arith, loop .inv .0 .fewRows)),
     )
 
 returns : tie.Need-returns Inv-loop2 μ-loop2 Inv-loop μ-loop
@@ -86,20 +80,17 @@ returns c =
     let t = turn told in
     let inv = t .before .loop2 .inv in
     nine-found (inv .1)
-    (sym (any-here _ (code (t .before) .g) (code (t .before) .r) (t .before .loop2 .row) (t .loop2-test .taken)
-    (inside told) (tested told ∙ c .if2 .taken)) ∙ inv .2)
+    (sym (tried-passes (inv .2) (inv .0 .known .sized .roomG) (t .loop2-test .taken) (tested told ∙ c .if2 .taken)))
     (at (t .before) .loop .inv .1)
 
 loop2-again : tie.Need-loop2-again Inv-loop2 μ-loop2 Inv-loop μ-loop
-unfolding generators
 loop2-again c =
     let told = c .before in
     let t = turn told in
     let inv = t .before .loop2 .inv in (
       inv .0,
       inv .1,
-      sym (any-later _ (code (t .before) .g) (code (t .before) .r) (t .before .loop2 .row) (t .loop2-test .taken)
-          (inside told) (tested told ∙ c .if2 .left)) ∙ inv .2,
+      tried-more (inv .2) (inv .0 .known .sized .roomG) (t .loop2-test .taken) (tested told ∙ c .if2 .left),
     )
 
 loop-again : tie.Need-loop-again Inv-loop2 μ-loop2 Inv-loop μ-loop
@@ -108,9 +99,7 @@ loop-again c =
     let tried = c .before in
     let inv = tried .loop2 .inv in (
       inv .0,
-      nine-passed (inv .1)
-          (sym (any-none _ (code tried .g) (code tried .r) (tried .loop2 .row) (c .loop2-test .left)) ∙ inv .2)
-          (at tried .loop .inv .1),
+      nine-passed (inv .1) (sym (tried-all (inv .2) (c .loop2-test .left))) (at tried .loop .inv .1),
     )
 
 returns-2 : tie.Need-returns-2 Inv-loop2 μ-loop2 Inv-loop μ-loop
