@@ -8,7 +8,7 @@ use pauli::Pauli;
 use search::earliest;
 ghost use mathlib.Core.Path.{_≡_};
 ghost use Rattle.code_record.specs.Record.{radius};
-ghost use Rattle.letter_sums.specs.Sums.{wordsOf};
+ghost use Rattle.letter_sums.specs.Sums.{wordsIn};
 ghost use Rattle.corrections.specs.Corrections.{correctionBy, correctionFor};
 
 // The correction for a syndrome, with sign +; or none, where no error of weight at most t has the syndrome.
@@ -34,7 +34,7 @@ pub fn correct_by<'a>(
     t: usize,
     syndrome: u32,
 ) -> Correction
-    ensures { λ r. ⌜ r ≡ correctionBy (wordsOf qubits (now (first .entry)) (now (second .entry))) t syndrome ⌝ }
+    ensures { λ r. ⌜ r ≡ correctionBy (wordsIn qubits (now (first .entry)) (now (second .entry))) t syndrome ⌝ }
 {
     match earliest(first, second, qubits, t, syndrome, 1) {
         Found::At { a, b } => Correction::Found(Pauli::signed(Sign::Plus, a, b)),

@@ -40,7 +40,8 @@ fn independence(code: Code) -> Elimination
     ensures { λ r. ⌜ r ≡ independence code ⌝ }
 {
     let count = code.r;
-    let reduced = independent_rows(code.n as u32, code.g, count);
+    let g = code.g;
+    let reduced = independent_rows(code.n as u32, g, count);
     let place = reduced.count;
     if place == count {
         return Elimination {
@@ -49,7 +50,8 @@ fn independence(code: Code) -> Elimination
         };
     }
     let line = code.generators_at() + place;
-    let Kind::MinusIdentity = kind_of(reduced.reduce(code.g[place])) else {
+    let p = code.row(Family::Generator, place);
+    let Kind::MinusIdentity = kind_of(reduced.reduce(p)) else {
         return refused(Refusal::DependentGenerator(line, Family::Generator));
     };
     refused(Refusal::MinusIdentity(line, Family::Generator))

@@ -56,9 +56,9 @@ foundAs (some s) = Found.At (xMask s) (zMask s)
 abbrev pub placedAt : ℕ → Letter → ℕ → ℕ → Found
 placedAt gap l a b = Found.At ((xBit l + 2 * a) * 2 ^ gap) ((zBit l + 2 * b) * 2 ^ gap)
 
--- Words, by how many qubits have them.
-abbrev pub wordsOf : ℕ → List ℕ → List ℕ → LetterWords
-wordsOf qubits first second = record { qubits = qubits; first = first; second = second }
+-- The words that two arrays hold, for so many qubits.
+abbrev pub wordsIn : ℕ → List ℕ → List ℕ → LetterWords
+wordsIn qubits first second = record { qubits = qubits; first = first; second = second }
 
 -- The call: the earliest string of weight at most t on the qubits that have words.
 unfoldable pub earliestBy : LetterWords → ℕ → ℕ → ℕ → Found

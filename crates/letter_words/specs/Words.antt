@@ -13,6 +13,7 @@ use Rattle.letters.specs.Lists.{firstOf}
 use Rattle.pauli.specs.declared.Pauli.{Pauli}
 use Rattle.pauli.specs.Letters.{rowOf, ofLetters}
 use Rattle.pauli.specs.Order.{stringsUpTo}
+use Rattle.pauli.specs.Product.{identity}
 use Rattle.pauli.specs.Syndrome.{syndromeMask}
 use Rattle.code_record.specs.declared.Code.{Code}
 use Rattle.code_record.specs.Record.{generators}
@@ -57,6 +58,10 @@ syndromeWords c = record {
   first = wordsOf (syndromeMask (generators c)) (wordQubits c);
   second = replicate wordRoom 0;
 }
+
+-- A record of n, r and the generators' rows: nothing else of a record is in its words.
+abbrev pub withGenerators : ℕ → ℕ → List Pauli → Code
+withGenerators n r g = record { n = n; r = r; d = 0; g = g; x = []; z = []; w = identity }
 
 -- RULES, "Decoding": the earliest string of weight at most t, on the qubits that have words, with a given syndrome as a
 -- mask. Within limits these are all n qubits.

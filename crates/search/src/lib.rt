@@ -15,7 +15,7 @@ ghost use Prim.Native.Nat.{ℕ, _+_, _*_, _^_, min, _≤_, _<_};
 ghost use lib.ListN.{length};
 ghost use Rattle.letters.specs.Letters.{struckLetter};
 ghost use Rattle.word_filter.specs.Filter.{NoneBefore};
-ghost use Rattle.letter_sums.specs.Sums.{placedAt, foundAs, earliestOf, earliestUpTo, wordsOf, earliestBy};
+ghost use Rattle.letter_sums.specs.Sums.{placedAt, foundAs, earliestOf, earliestUpTo, wordsIn, earliestBy};
 
 // The masks of `gap` letters I, then the letter numbered 0, 1, 2 (X, Y, Z), then `right` letters that have the masks a
 // and b.
@@ -156,7 +156,7 @@ pub fn earliest<'a>(
     want: u32,
     shun: u64,
 ) -> Found
-    ensures { λ r. ⌜ r ≡ earliestBy (wordsOf qubits (now (first .entry)) (now (second .entry))) t want shun ⌝ }
+    ensures { λ r. ⌜ r ≡ earliestBy (wordsIn qubits (now (first .entry)) (now (second .entry))) t want shun ⌝ }
 {
     let n = smaller(qubits, QUBIT_ROOM);
     let none = [0u8; 0];

@@ -39,7 +39,7 @@ use Rattle.elimination.proofs.independence.Tie as tie
 
 module _ (c : tie.Start) where
   abbrev code : Code
-  code = c .args .t1
+  code = c .args .code
 
   room : (code .r ≤ length (code .g)) × (code .r < rowRoom) × (code .n ≤ mostQubits)
   room =
@@ -72,7 +72,7 @@ module _ (c : tie.Start) where
 
 module _ (c : tie.After-independent-rows) where
   abbrev s : tie.Start
-  s = c .before .before
+  s = c .before .before .before
 
   abbrev hs : ReducedRows
   hs = c .independent-rows .result
@@ -114,11 +114,12 @@ module _ (c : tie.After-kind-of) where
   unfolding reducedOf
   left-is =
       let n = code row .n in
-      let hs = canonicalGenerators n (take (stop row .place) (code row .g)) in
       c .before .reduce .ensures
+      ∙ ap (reduced (hs (other .before) .n) (rowsIn (hs (other .before)))) (c .before .before .row .ensures)
       ∙ ap₂ (λ r (i : ℕ). reduced (r .n) (rowsIn r) (getD (code row .g) i identity)) (rows-are (other .before))
       (count-is (other .before))
-      ∙ ap (λ hs. reduced n hs (getD (code row .g) (stop row .place) identity)) (rows-of n hs)
+      ∙ ap (λ hs. reduced n hs (getD (code row .g) (stop row .place) identity))
+      (rows-of n (canonicalGenerators n (take (stop row .place) (code row .g))))
 
   told : c .kind-of .result ≡ kindOf left
   told = c .kind-of .ensures ∙ ap kindOf left-is
@@ -145,7 +146,7 @@ module _ (c : tie.After-kind-of) where
 -- ---- the needs
 
 cast-independent-rows : tie.Need-cast-independent-rows
-cast-independent-rows c = record { fits = omega (arith, room c) }
+cast-independent-rows c = record { fits = omega (arith, room (c .before .before)) }
 
 returns : tie.Need-returns
 unfolding eliminated generators
@@ -181,8 +182,7 @@ independence-spec =
     returns
     (λ c κs. search needs)
     add-line
-    (λ c. let few = small (c .before) in search needs)
-    (λ c. let few = small (c .before) in search needs)
+    (λ c κs. search needs)
     (λ c κs. search needs)
     (λ c κs. search needs)
     (λ c. search needs)

@@ -1,144 +1,19 @@
--- The first words, qubit by qubit: those of the qubits passed are there, and the others are still 0. The bits of a
--- qubit's words, generator by generator: the inner loop starts behind the last, where there are none.
-use mathlib.Core.List.{List}
-use mathlib.Core.Path.{_≡_, refl, ap, _∙_}
-use Prim.Native.Nat.{ℕ, _+_, _-_, _*_, _^_, _<_}
-use native.Mathlib.Omega.{arith}
-use lib.ListN.{set, replicate, length}
-use Rattle.pauli.specs.declared.Pauli.{Pauli}
-use Rattle.pauli.specs.Syndrome.{syndromeMask}
-use Rattle.code_record.specs.declared.Code.{Code}
-use Rattle.code_record.specs.Record.{rowRoom, generators}
-use Rattle.code_record.proofs.ArrayLengths.{sized-of}
-use Rattle.letter_sums.specs.declared.LetterWords.{LetterWords}
-use Rattle.syndrome_mask.proofs.GeneratorBits.{generators-length}
-use Rattle.letter_words.specs.Words.{wordRoom, wordsOf, wordQubits, syndromeWords}
-use Rattle.letter_words.proofs.Filling.{Filling, none-filled, three-more, all-filled}
-use Rattle.letter_words.proofs.GeneratorWords.{WordsFrom, none-read, x-small, z-small, one-more-read}
-use Rattle.letter_words.proofs.GeneratorWords.{x-read, y-read, z-read}
+-- Of a record nothing but n, r and its generators is in its words.
+use mathlib.Core.Path.{_≡_}
+use Rattle.code_record.specs.Record.{generators}
+use Rattle.letter_words.specs.Words.{wordQubits, syndromeWords, withGenerators}
 use borrow.Author.Needs.{needs}
 use Rattle.letter_words.proofs.syndrome_words.Statement.{statement}
 use Rattle.letter_words.proofs.syndrome_words.Tie as tie
 
-abbrev word : Code → Pauli → ℕ
-word code = syndromeMask (generators code)
+by-generators : (c : tie.After-words-of)
+    → let code = c .before .before .args .code in
+    c .words-of .result ≡ syndromeWords (withGenerators (code .n) (code .r) (code .g))
+by-generators c = c .words-of .ensures
 
--- Words whose first words are given, and words with one of these stored.
-abbrev value : ℕ → List ℕ → LetterWords
-value n first = record { qubits = n; first = first; second = replicate wordRoom 0 }
-
-abbrev stored : ℕ → LetterWords → ℕ → LetterWords
-stored at w m = record { qubits = w .qubits; first = set (w .first) at m; second = w .second }
-
-abbrev Inv-loop2 : tie.InvT-loop2
-Inv-loop2 code qubits count words qubit at x₀ z₀ place₀ x z place =
-    WordsFrom code qubit place x z
-
-abbrev μ-loop2 : tie.MeasureT-loop2
-μ-loop2 code qubits count words qubit at x₀ z₀ place₀ x z place = place
-
-abbrev Inv-loop : tie.InvT-loop
-Inv-loop code qubits count words₀ qubit₀ at₀ words qubit at =
-    (at + 3 * qubit ≡ 3 * qubits) × Filling (word code) (value qubits) qubits at words
-
-abbrev μ-loop : tie.MeasureT-loop
-μ-loop code qubits count words₀ qubit₀ at₀ words qubit at = qubit
-
--- ---- a generator
-
-room : (start : tie.Start Inv-loop2 μ-loop2 Inv-loop μ-loop) → length (start .args .t1 .g) ≡ rowRoom
-room start = sized-of (start .args .t1) (start .good .0) .roomG
-
-module _ (c : tie.In-loop2 Inv-loop2 μ-loop2 Inv-loop μ-loop) where
-  abbrev start : tie.Start Inv-loop2 μ-loop2 Inv-loop μ-loop
-  start = c .before .before .before .before .before .before
-
-  x-fits : c .before .loop2 .x < 2 ^ 31
-  x-fits = x-small (c .before .loop2 .inv) (room start) (c .loop2-test .taken)
-
-  z-fits : c .before .loop2 .z < 2 ^ 31
-  z-fits = z-small (c .before .loop2 .inv) (room start) (c .loop2-test .taken)
-
--- ---- the needs
-
-loop-holds : tie.Need-loop-holds Inv-loop2 μ-loop2 Inv-loop μ-loop
-loop-holds c =
-    let code = c .before .before .args .t1 in
-    let counted = c .before .at-most in (
-      omega arith,
-      none-filled (word code) (value (counted .result)) (counted .result) _ (omega (arith, counted .ensures)) refl,
-    )
-
-loop2-holds : tie.Need-loop2-holds Inv-loop2 μ-loop2 Inv-loop μ-loop
-loop2-holds c =
-    let start = c .before .before .before .before in
-    let code = start .args .t1 in
-    let loop = c .before .loop in
-    none-read code (loop .qubit - 1) (omega (arith, loop .inv .0, loop .inv .1 .few)) (room start)
-    (omega (arith, c .before .before .at-most2 .ensures, generators-length code, room start))
-
-loop2-again : tie.Need-loop2-again Inv-loop2 μ-loop2 Inv-loop μ-loop
-loop2-again c =
-    let turn = c .before .before .before in
-    one-more-read (turn .before .loop2 .inv) (room (start turn)) (turn .loop2-test .taken)
-
-loop-again : tie.Need-loop-again Inv-loop2 μ-loop2 Inv-loop μ-loop
-loop-again c =
-    let turn = c .before .before in
-    let loop = turn .before .loop in
-    let code = turn .before .before .before .before .args .t1 in
-    let qubits = turn .before .before .before .at-most .result in
-    let inv = c .before .loop2 .inv in
-    let first : c .before .loop2 .place ≡ 0 = omega (arith, c .loop2-test .left) in (
-      omega (arith, loop .inv .0, turn .loop-test .taken),
-      three-more (word code) qubits (loop .at) (loop .qubit - 1)
-          (omega (arith, loop .inv .0, turn .loop-test .taken)) (loop .inv .1) stored (λ i table m. refl)
-          (x-read inv first) (y-read inv first) (z-read inv first),
-    )
-
-returns : tie.Need-returns Inv-loop2 μ-loop2 Inv-loop μ-loop
-unfolding syndromeWords wordQubits
-returns c =
-    let at = c .before in
-    let word = word (at .before .before .before .args .t1) in
-    all-filled (at .loop .inv .1) (omega (arith, at .loop .inv .0, c .loop-test .left))
-    ∙ ap (λ (n : ℕ). value n (wordsOf word n)) (at .before .before .at-most .ensures)
+returns : tie.Need-returns
+unfolding syndromeWords wordQubits generators
+returns c = by-generators c
 
 pub syndrome-words-spec : {M : Type 1} → statement M
-syndrome-words-spec =
-    tie.close
-    (tie.spec
-    Inv-loop2
-    μ-loop2
-    Inv-loop
-    μ-loop
-    (λ c κs. search needs)
-    (λ c κs. search needs)
-    loop-holds
-    (λ c. search needs)
-    loop2-holds
-    (λ c. search needs)
-    (λ c. search needs)
-    (λ c. search needs)
-    (λ c. record { fits = omega (arith, x-fits (c .before)) })
-    (λ c. search needs)
-    (λ c. search needs)
-    (λ c. record { fits = omega (arith, x-fits (c .before .before)) })
-    (λ c. record { fits = omega (arith, z-fits (c .before .before)) })
-    (λ c. search needs)
-    (λ c. search needs)
-    (λ c. record { fits = omega (arith, z-fits (c .before .before .before)) })
-    (λ c. search needs)
-    loop2-again
-    (λ c. search needs)
-    (λ c. search needs)
-    (λ c. search needs)
-    (λ c. search needs)
-    (λ c. search needs)
-    (λ c. search needs)
-    (λ c. search needs)
-    (λ c. search needs)
-    (λ c. search needs)
-    (λ c. search needs)
-    loop-again
-    returns)
+syndrome-words-spec = tie.close (tie.spec (λ c κs. search needs) returns)

@@ -7,7 +7,7 @@ use Prim.Native.Nat.{ℕ, _≤_, _<_, _*_, min}
 use native.Mathlib.Omega.{arith}
 use lib.ListN.{length}
 use borrow.Author.Needs.{needs}
-use Rattle.letter_sums.specs.Sums.{foundAs, earliestUpTo, wordsOf, earliestBy}
+use Rattle.letter_sums.specs.Sums.{foundAs, earliestUpTo, wordsIn, earliestBy}
 use Rattle.letter_sums.proofs.Masks.{found-some, found-nothing, found-again}
 use Rattle.letter_sums.proofs.Words.{NoneLighter, up-to-stays, none-up-to}
 use Rattle.word_filter.specs.Filter.{NoneBefore}
@@ -16,7 +16,7 @@ use Rattle.search.proofs.earliest.Statement.{statement}
 use Rattle.search.proofs.earliest.Tie as tie
 
 on-qubits : (first second : List ℕ) (qubits n t want shun : ℕ) → n ≡ min qubits 32
-    → foundAs (earliestUpTo first second n t want shun) ≡ earliestBy (wordsOf qubits first second) t want shun
+    → foundAs (earliestUpTo first second n t want shun) ≡ earliestBy (wordsIn qubits first second) t want shun
 unfolding earliestBy
 on-qubits first second qubits n t want shun few =
     ap (λ (m : ℕ). foundAs (earliestUpTo first second m t want shun)) few
