@@ -106,12 +106,12 @@ fn public_functions() -> BTreeSet<String> {
     found
 }
 
-/// The function that a line declares, for Rattle or for C.
+/// The function that a line declares, for Rattle or for C. A lifetime may stand behind its name.
 fn public_function(line: &str) -> Option<&str> {
     let line = line.trim_start();
     let declared = ["pub fn ", "pub extern \"C\" fn "];
     let rest = declared.iter().find_map(|start| line.strip_prefix(start))?;
-    rest.split('(').next()
+    rest.split(['(', '<']).next()
 }
 
 #[test]

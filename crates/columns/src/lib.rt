@@ -1,6 +1,6 @@
 // The columns of a row, read as bits a1..an, b1..bn: where its first one stands, whether a mask has a one at all, and
-// how a row is cleared by another. This is what an elimination does most, so the X part and the Z part are told apart by
-// branches, and no column is computed where a bit is tested.
+// how a row is cleared by another. This is what an elimination does most. So the X part and the Z part are told apart
+// by branches, and no column is computed where a bit is tested.
 use pauli::Pauli;
 ghost use mathlib.Core.Path.{_≡_};
 ghost use Prim.Native.Nat.{_/_, _%_, _^_};

@@ -24,9 +24,9 @@ pub fn radius(code: Code) -> usize
     if code.d < 1 { 0 } else { (code.d - 1) / 2 }
 }
 
-// The correction of weight at most t for a syndrome, by the words of a code's letters. They are made once, and serve
-// for any number of syndromes, so they are lent. All second words of `syndrome_words` are 0, so with 1 shunned no string
-// is passed over.
+// The correction of weight at most t for a syndrome, by the words of a code's letters. They are made once and lent, and
+// serve for any number of syndromes. All second words of `syndrome_words` are 0, so with 1 shunned no string is passed
+// over.
 pub fn correct_by<'a>(
     first: &'a [u32; WORD_ROOM],
     second: &'a [u64; WORD_ROOM],

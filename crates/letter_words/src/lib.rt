@@ -20,9 +20,10 @@ fn at_most(room: usize, n: usize) -> usize
     room
 }
 
-// The words by n, r and the generators' rows, which are all that is copied of the record. X at a qubit anticommutes with
-// the generators that have the qubit's bit in their Z mask, and Z with those that have it in their X mask. Y is the
-// product of the two. So the bits are read from the rows, from the last generator on, each doubling those behind it.
+// The words by n, r and the generators' rows, which are all that is copied of the record. X at a qubit anticommutes
+// with the generators that have the qubit's bit in their Z mask, and Z with those that have it in their X mask. Y is
+// the product of the two. So the bits are read from the rows, from the last generator on, each doubling those behind
+// it.
 fn words_of(n: usize, r: usize, g: [Pauli; ROW_ROOM]) -> LetterWords
     ensures { λ w. ⌜ w ≡ syndromeWords (withGenerators n r g) ⌝ }
 {

@@ -11,10 +11,13 @@ use Rattle.corrections.proofs.correct.Tie as tie
 abbrev made : tie.After-correct-by → tie.After-syndrome-words
 made c = c .before .before .before .before .before
 
+abbrev counted : tie.After-correct-by → tie.After-radius
+counted c = c .before .before .before .before
+
 -- What the call was given.
 by-words : (c : tie.After-correct-by)
     → c .correct-by .result
-    ≡ correctionBy (made c .syndrome-words .result) (c .before .before .before .before .radius .result) (made c .before .args .syndrome)
+    ≡ correctionBy (made c .syndrome-words .result) (counted c .radius .result) (made c .before .args .syndrome)
 by-words c = c .correct-by .ensures
 
 returns : tie.Need-returns
@@ -22,7 +25,7 @@ returns c =
     let a = made c .before .args in
     by-words c
     ∙ ap₂ (λ (w : LetterWords) (t : ℕ). correctionBy w t (a .syndrome)) (made c .syndrome-words .ensures)
-    (c .before .before .before .before .radius .ensures)
+    (counted c .radius .ensures)
     ∙ corrections-by-value .byWords (a .code) (a .syndrome)
 
 pub correct-spec : {M : Type 1} → statement M

@@ -18,8 +18,9 @@ decided : (c : tie.After-earliest)
 decided c =
     let words = made c .logical-words in
     let a = made c .before .args in
-    refuted-by (a .at) (a .code) (a .reduced) (words .result) (c .before .before .before .before .below .result) (c .earliest .result)
-    (words .ensures) (c .before .before .before .before .below .ensures) (c .earliest .ensures)
+    let most = c .before .before .before .before .below in
+    refuted-by (a .at) (a .code) (a .reduced) (words .result) (most .result) (c .earliest .result) (words .ensures)
+    (most .ensures) (c .earliest .ensures)
 
 returns : tie.Need-returns
 returns c =
