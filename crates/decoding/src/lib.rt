@@ -8,28 +8,8 @@ use record_limits::within_limits;
 use refusals::Refusal;
 use syndrome_reader::SyndromeRead;
 use syndrome_reader::read_syndrome;
-ghost use mathlib.Core.Bool.{true};
 ghost use mathlib.Core.Path.{_≡_};
-ghost use Prim.Native.Nat.{_≤_};
-ghost use lib.ListN.{length};
-ghost use Rattle.code_record.specs.Record.{radius, withinLimits};
-ghost use Rattle.letter_words.specs.Words.{earliestWith};
-ghost use Rattle.decoder.specs.Correction.{corrected, decode};
-
-// The correction for a syndrome, as letters, into a buffer that has room for them.
-fn letters_of_correction(code: Code, syndrome: u32, out: &mut [u8]) -> Decoded
-    requires { ⌜ withinLimits code ≡ true ⌝ }
-    requires { ⌜ code .n ≤ length (now out) ⌝ }
-    ensures { λ r. ⌜ r ≡ (corrected (earliestWith code (radius code) syndrome) (now (out .entry))) .answer ⌝ }
-    ensures { λ _.
-        ⌜ now (out .exit) ≡ (corrected (earliestWith code (radius code) syndrome) (now (out .entry))) .buffer ⌝ }
-{
-    let Correction::Found(p) = correct(code, syndrome) else {
-        return Decoded::None;
-    };
-    fill_letters(p, &mut out[..code.n]);
-    Decoded::Correction
-}
+ghost use Rattle.decoder.specs.Correction.{decode};
 
 // The correction for a syndrome that is given as characters, into an output buffer: 15 where the record is outside its
 // limits, then 16 where the characters are no syndrome of it, then 17 where the buffer is shorter than n. Then the
@@ -47,5 +27,9 @@ pub fn decode(code: Code, characters: &[u8], out: &mut [u8]) -> Decoded
     if out.len() < code.n {
         return Decoded::Refused(Refusal::ShortBuffer);
     }
-    letters_of_correction(code, syndrome, out)
+    let Correction::Found(p) = correct(code, syndrome) else {
+        return Decoded::None;
+    };
+    fill_letters(p, &mut out[..code.n]);
+    Decoded::Correction
 }
