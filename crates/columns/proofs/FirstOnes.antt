@@ -2,7 +2,7 @@
 -- part, and where it has none.
 use mathlib.Core.Bool.{true, false}
 use mathlib.Core.Path.{_≡_, ap, sym, _∙_}
-use Prim.Native.Nat.{ℕ, _+_, _-_, _*_, _/_, _%_, _^_, _≤_, _<_, min}
+use Prim.Native.Nat.{ℕ, _+_, _/_, _%_, _^_, _<_, min}
 use native.Mathlib.Decide.{decLt}
 use native.Mathlib.Nat.{add-sub-cancel-left}
 use native.Mathlib.Omega.{arith}

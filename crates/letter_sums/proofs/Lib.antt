@@ -2,6 +2,5 @@ pub mod First
 pub mod Steps
 pub mod Masks
 pub mod Words
-pub mod ArrayLengths
 pub mod Additive
 pub mod Examples

@@ -1,5 +1,5 @@
 -- Where there is a one, the zeros below it are counted.
-use mathlib.Core.Path.{_≡_, sym, _∙_}
+use mathlib.Core.Path.{sym, _∙_}
 use Rattle.columns.proofs.FirstOnes.{zeros-below, no-first-one}
 use borrow.Author.Needs.{needs}
 use Rattle.columns.proofs.first_one.Statement.{statement}

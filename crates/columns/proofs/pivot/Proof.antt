@@ -1,7 +1,6 @@
 -- The first one of the X part, or that of the Z part behind its n columns.
-use mathlib.Core.Path.{_≡_, ap, sym, _∙_}
+use mathlib.Core.Path.{ap, sym, _∙_}
 use Prim.Native.Nat.{ℕ, _+_}
-use native.Mathlib.Omega.{arith}
 use borrow.Author.Tests.{ltb-true}
 use Rattle.stabilizer.proofs.Columns.{pivot-x, pivot-z}
 use Rattle.columns.proofs.FirstOnes.{no-first-one}

@@ -2,16 +2,15 @@
 -- all; where they make none, the heavier ones are looked for with the table, which tells nothing wrong.
 use mathlib.Core.List.{List}
 use mathlib.Core.Option.{none}
-use mathlib.Core.Path.{_≡_, refl, ap, subst, sym, _∙_}
-use Prim.Native.Nat.{ℕ, _≤_, _<_, _*_, min}
+use mathlib.Core.Path.{_≡_, ap, subst, sym, _∙_}
+use Prim.Native.Nat.{ℕ, min}
 use native.Mathlib.Omega.{arith}
 use lib.ListN.{length}
 use borrow.Author.Needs.{needs}
 use Rattle.letter_sums.specs.Sums.{foundAs, earliestUpTo, wordsIn, earliestBy}
 use Rattle.letter_sums.proofs.Masks.{found-some, found-nothing, found-again}
-use Rattle.letter_sums.proofs.Words.{NoneLighter, up-to-stays, none-up-to}
-use Rattle.word_filter.specs.Filter.{NoneBefore}
-use Rattle.word_filter.proofs.Tables.{all-told, none-told}
+use Rattle.letter_sums.proofs.Words.{up-to-stays, none-up-to}
+use Rattle.word_filter.proofs.Tables.{none-told}
 use Rattle.search.proofs.earliest.Statement.{statement}
 use Rattle.search.proofs.earliest.Tie as tie
 
