@@ -32,7 +32,7 @@ use Rattle.corrections.specs.Statements.{CorrectionsByValue}
 
 -- ---- by words
 
-of-masks : (found : Option (List Letter)) → ofMasks (foundAs found) ≡ correctionOf found
+pub of-masks : (found : Option (List Letter)) → ofMasks (foundAs found) ≡ correctionOf found
 unfolding ofMasks foundAs correctionOf ofLetters signedRow
 of-masks none = refl
 of-masks (some s) = refl

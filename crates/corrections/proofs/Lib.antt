@@ -1,2 +1,3 @@
 pub mod ByValue
+pub mod Light
 pub mod Examples

@@ -2,6 +2,7 @@
 use code_record::Code;
 use letter_sums::Found;
 use letter_sums::WORD_ROOM;
+use letter_words::lone_letter;
 use letter_words::syndrome_words;
 use letters::Sign;
 use pauli::Pauli;
@@ -42,11 +43,26 @@ pub fn correct_by<'a>(
     }
 }
 
-// The correction that a record has for a syndrome. The first generator's bit is the lowest of the mask.
+// The correction that a record has for a syndrome. The first generator's bit is the lowest of the mask. One letter is
+// looked for at all qubits at once; the words are made where one is not enough.
 pub fn correct(code: Code, syndrome: u32) -> Correction
     ensures { λ r. ⌜ r ≡ correctionFor code syndrome ⌝ }
 {
-    let words = syndrome_words(code);
+    if syndrome == 0 {
+        return Correction::Found(Pauli::identity());
+    }
     let t = radius(code);
+    if t < 1 {
+        return Correction::None;
+    }
+    let g = code.g;
+    let lone = lone_letter(code.n, code.r, g, syndrome);
+    if let Found::At { a, b } = lone {
+        return Correction::Found(Pauli::signed(Sign::Plus, a, b));
+    }
+    if t < 2 {
+        return Correction::None;
+    }
+    let words = syndrome_words(code);
     correct_by(&words.first, &words.second, words.qubits, t, syndrome)
 }

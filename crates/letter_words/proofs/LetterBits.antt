@@ -1,19 +1,19 @@
--- X at a qubit anticommutes with a row that has the qubit's bit in its Z mask, and Z with one that has it in its X
--- mask.
-use mathlib.Core.Path.{_≡_, refl, ap, ap₂, _∙_}
+-- X at a qubit anticommutes with a row that has the qubit's bit in its Z mask, Z with one that has it in its X mask,
+-- and Y with one that has it in one of the two.
+use mathlib.Core.Path.{_≡_, refl, ap, ap₂, sym, _∙_}
 use Prim.Native.Nat.{ℕ, zero, suc, _+_, _/_, _%_, _^_, _<_}
 use native.Mathlib.Nat.{zero-add}
 use native.Mathlib.Omega.{arith}
-use lib.Bits.{bitAnd, and-mask, and-zero-r}
+use lib.Bits.{bitAnd, bitXor, and-mask, and-zero-r, xor-shr}
 use lib.Pow.{shr-shr}
-use Rattle.letters.specs.declared.Letter.the-variants.{X, Z}
+use Rattle.letters.specs.declared.Letter.the-variants.{X, Y, Z}
 use Rattle.pauli.specs.declared.Pauli.{Pauli}
 use Rattle.pauli.specs.Masks.{onesAmong, countOnes, dot}
 use Rattle.pauli.specs.Product.{symplectic}
-use Rattle.pauli.proofs.Masks.{digit, and-half, and-low, countOnes-zero, joined-step, dot-comm}
+use Rattle.pauli.proofs.Masks.{digit, xor-low, and-half, and-low, countOnes-zero, joined-step, dot-comm}
 use Rattle.letter_sums.specs.Sums.{qubitRoom}
 use Rattle.letter_words.specs.Words.{singleLetter}
-use Rattle.letter_words.proofs.Singles.{HasMasks, masks-of-x, masks-of-z}
+use Rattle.letter_words.proofs.Singles.{HasMasks, masks-of-x, masks-of-y, masks-of-z}
 
 -- ---- a mask and a single bit
 
@@ -39,7 +39,15 @@ dot-none : (m : ℕ) → dot m 0 ≡ 0
 unfolding dot
 dot-none m = ap countOnes (and-zero-r m) ∙ countOnes-zero
 
--- ---- the symplectic products with X and Z
+-- The parity of two bits is their sum, bit by bit.
+xor-bit : (place m k : ℕ) → (m / 2 ^ place % 2 + k / 2 ^ place % 2) % 2 ≡ bitXor m k / 2 ^ place % 2
+xor-bit place m k =
+    digit (λ (x : ℕ). (x + k / 2 ^ place % 2) % 2 ≡ bitXor x (k / 2 ^ place % 2))
+    (digit (λ (y : ℕ). (0 + y) % 2 ≡ bitXor 0 y) refl refl (k / 2 ^ place))
+    (digit (λ (y : ℕ). (1 + y) % 2 ≡ bitXor 1 y) refl refl (k / 2 ^ place)) (m / 2 ^ place)
+    ∙ sym (ap (λ (x : ℕ). x % 2) (xor-shr m k place) ∙ xor-low (m / 2 ^ place) (k / 2 ^ place))
+
+-- ---- the symplectic products with X, Y and Z
 
 module _ (place : ℕ) (within : place < qubitRoom) (g : Pauli) where
   with-masks : (P : Pauli) (a b : ℕ) → HasMasks P a b → symplectic g P ≡ (dot (g .a) b + dot a (g .b)) % 2
@@ -51,6 +59,12 @@ module _ (place : ℕ) (within : place < qubitRoom) (g : Pauli) where
       with-masks (singleLetter place X) (2 ^ place) 0 (masks-of-x place within)
       ∙ ap₂ (λ (x y : ℕ). (x + y) % 2) (dot-none (g .a)) (dot-comm (2 ^ place) (g .b) ∙ dot-bit place (g .b))
       ∙ omega arith
+
+  pub y-bit : symplectic g (singleLetter place Y) ≡ bitXor (g .a) (g .b) / 2 ^ place % 2
+  y-bit =
+      with-masks (singleLetter place Y) (2 ^ place) (2 ^ place) (masks-of-y place within)
+      ∙ ap₂ (λ (x y : ℕ). (x + y) % 2) (dot-bit place (g .a)) (dot-comm (2 ^ place) (g .b) ∙ dot-bit place (g .b))
+      ∙ xor-bit place (g .a) (g .b)
 
   pub z-bit : symplectic g (singleLetter place Z) ≡ g .a / 2 ^ place % 2
   z-bit =

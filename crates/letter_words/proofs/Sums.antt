@@ -109,7 +109,7 @@ pub all-qubits : (c : Code) → c .n ≤ qubitRoom → wordQubits c ≡ c .n
 unfolding wordQubits
 all-qubits c few = omega arith
 
-word-qubits-fit : (c : Code) → wordQubits c ≤ qubitRoom
+pub word-qubits-fit : (c : Code) → wordQubits c ≤ qubitRoom
 unfolding wordQubits
 word-qubits-fit c = omega arith
 

@@ -1,14 +1,20 @@
 // The words of a code's letters, by which the search goes through its errors: each letter at each qubit has its
-// syndrome as a mask.
+// syndrome as a mask. A letter by itself with a given syndrome is found without words.
 use code_record::Code;
 use code_record::ROW_ROOM;
+use letter_sums::Found;
 use letter_sums::LetterWords;
 use letter_sums::QUBIT_ROOM;
 use letter_sums::WORD_ROOM;
 use pauli::Pauli;
+ghost use mathlib.Core.Bool.{cond};
 ghost use mathlib.Core.Path.{_≡_};
 ghost use Prim.Native.Nat.{min};
+ghost use lib.Dec.{eqb};
+ghost use Rattle.code_record.specs.Record.{generators};
+ghost use Rattle.letter_sums.specs.Sums.{foundAs};
 ghost use Rattle.letter_words.specs.Words.{syndromeWords, withGenerators};
+ghost use Rattle.letter_words.specs.Lone.{loneLetter, having, AreCandidates};
 
 // The lesser of a number and the room there is for it.
 fn at_most(room: usize, n: usize) -> usize
@@ -61,4 +67,73 @@ pub fn syndrome_words(code: Code) -> LetterWords
 {
     let g = code.g;
     words_of(code.n, code.r, g)
+}
+
+// Of the qubits in a set those whose bit in a mask is the wanted one.
+fn having(set: u32, mask: u32, bit: u32) -> u32
+    ensures { λ r. ⌜ r ≡ having set mask bit ⌝ }
+{
+    let ones = set & mask;
+    if bit == 1 { ones } else { set ^ ones }
+}
+
+// The qubits at which X, Y and Z by themselves have a syndrome, each set as a mask.
+struct LetterSets {
+    x: u32,
+    y: u32,
+    z: u32,
+}
+
+// The candidates before any generator is passed: all qubits, or none where the syndrome has bits above the last
+// generator's.
+fn candidates_at_first(above: u64) -> u32
+    ensures { λ r. ⌜ r ≡ cond (eqb above 0) 4294967295 0 ⌝ }
+{
+    if above == 0 { 4294967295 } else { 0 }
+}
+
+// They are found for all qubits at once, generator by generator: those stay whose letter has its bit of the syndrome.
+fn candidates(r: usize, g: [Pauli; ROW_ROOM], syndrome: u32) -> LetterSets
+    ensures { λ c. ⌜ AreCandidates (generators (withGenerators 0 r g)) syndrome c ⌝ }
+{
+    let count = at_most(ROW_ROOM, r);
+    let all = candidates_at_first((syndrome as u64) >> count);
+    let mut x = all;
+    let mut y = all;
+    let mut z = all;
+    let mut place = count;
+    while place > 0 {
+        place -= 1;
+        let row = g[place];
+        let bit = (syndrome >> place) % 2;
+        x = having(x, row.b, bit);
+        y = having(y, row.a ^ row.b, bit);
+        z = having(z, row.a, bit);
+    }
+    LetterSets { x, y, z }
+}
+
+// The earliest string of one letter that has a syndrome, for a record of which n, r and the generators' rows are given.
+// The fewer qubits are behind the letter, the earlier is the string.
+pub fn lone_letter(n: usize, r: usize, g: [Pauli; ROW_ROOM], syndrome: u32) -> Found
+    ensures { λ f. ⌜ f ≡ foundAs (loneLetter (withGenerators n r g) syndrome) ⌝ }
+{
+    let fitting = candidates(r, g, syndrome);
+    let mut qubit = at_most(QUBIT_ROOM, n);
+    'search: loop {
+        while qubit > 0 {
+            qubit -= 1;
+            let bit = 1u32 << qubit;
+            if (fitting.x >> qubit) % 2 == 1 {
+                break 'search Found::At { a: bit, b: 0 };
+            }
+            if (fitting.y >> qubit) % 2 == 1 {
+                break 'search Found::At { a: bit, b: bit };
+            }
+            if (fitting.z >> qubit) % 2 == 1 {
+                break 'search Found::At { a: 0, b: bit };
+            }
+        }
+        break Found::Nothing;
+    }
 }
