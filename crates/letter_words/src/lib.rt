@@ -9,10 +9,10 @@ use letter_sums::WORD_ROOM;
 use pauli::Pauli;
 ghost use mathlib.Core.Bool.{cond};
 ghost use mathlib.Core.Path.{_≡_};
-ghost use Prim.Native.Nat.{min};
+ghost use Prim.Native.Nat.{_+_, _*_, _/_, _%_, _^_, _<_, min};
 ghost use lib.Dec.{eqb};
 ghost use Rattle.code_record.specs.Record.{generators};
-ghost use Rattle.letter_sums.specs.Sums.{foundAs};
+ghost use Rattle.letter_sums.specs.Sums.{qubitRoom, foundAs};
 ghost use Rattle.letter_words.specs.Words.{syndromeWords, withGenerators};
 ghost use Rattle.letter_words.specs.Lone.{loneLetter, having, AreCandidates};
 
@@ -26,10 +26,20 @@ fn at_most(room: usize, n: usize) -> usize
     room
 }
 
+// The bits of a row's masks at a qubit: that of the X mask at the place 0, and that of the Z mask at the place 32.
+fn bits_at(row: Pauli, qubit: usize) -> u64
+    requires { ⌜ qubit < qubitRoom ⌝ }
+    ensures { λ r. ⌜ r ≡ row .a / 2 ^ qubit % 2 + 2 ^ 32 * (row .b / 2 ^ qubit % 2) ⌝ }
+{
+    let masks = row.a as u64 + 4294967296 * (row.b as u64);
+    (masks >> qubit) & 4294967297
+}
+
 // The words by n, r and the generators' rows, which are all that is copied of the record. X at a qubit anticommutes
 // with the generators that have the qubit's bit in their Z mask, and Z with those that have it in their X mask. Y is
 // the product of the two. So the bits are read from the rows, from the last generator on, each doubling those behind
-// it.
+// it. The word of Z is the low half of one number and the word of X the high half, so that one sum doubles both: a
+// word has no more than 32 bits, and never reaches into the other half.
 fn words_of(n: usize, r: usize, g: [Pauli; ROW_ROOM]) -> LetterWords
     ensures { λ w. ⌜ w ≡ syndromeWords (withGenerators n r g) ⌝ }
 {
@@ -44,15 +54,15 @@ fn words_of(n: usize, r: usize, g: [Pauli; ROW_ROOM]) -> LetterWords
     let mut at: usize = 0;
     while qubit > 0 {
         qubit -= 1;
-        let mut x: u32 = 0;
-        let mut z: u32 = 0;
+        let mut both: u64 = 0;
         let mut place = count;
         while place > 0 {
             place -= 1;
             let row = g[place];
-            x = 2 * x + (row.b >> qubit) % 2;
-            z = 2 * z + (row.a >> qubit) % 2;
+            both = 2 * both + bits_at(row, qubit);
         }
+        let x = (both >> 32) as u32;
+        let z = (both % 4294967296) as u32;
         words.first[at] = x;
         words.first[at + 1] = x ^ z;
         words.first[at + 2] = z;

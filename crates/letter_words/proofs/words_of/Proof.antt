@@ -2,7 +2,7 @@
 -- qubit's words, generator by generator: the inner loop starts behind the last, where there are none.
 use mathlib.Core.List.{List}
 use mathlib.Core.Path.{_≡_, refl, ap, _∙_}
-use Prim.Native.Nat.{ℕ, _+_, _-_, _*_, _^_, _<_}
+use Prim.Native.Nat.{ℕ, _+_, _-_, _*_, _^_, _≤_}
 use native.Mathlib.Omega.{arith}
 use lib.ListN.{set, replicate, length}
 use Rattle.pauli.specs.declared.Pauli.{Pauli}
@@ -13,8 +13,8 @@ use Rattle.letter_sums.specs.declared.LetterWords.{LetterWords}
 use Rattle.syndrome_mask.proofs.GeneratorBits.{generators-length}
 use Rattle.letter_words.specs.Words.{wordRoom, wordsOf, wordQubits, syndromeWords, withGenerators}
 use Rattle.letter_words.proofs.Filling.{Filling, none-filled, three-more, all-filled}
-use Rattle.letter_words.proofs.GeneratorWords.{WordsFrom, none-read, x-small, z-small, one-more-read}
-use Rattle.letter_words.proofs.GeneratorWords.{x-read, y-read, z-read}
+use Rattle.letter_words.proofs.GeneratorWords.{WordsFrom, none-read, both-small, one-more-read}
+use Rattle.letter_words.proofs.GeneratorWords.{x-read, x-fits, y-read, z-read}
 use borrow.Author.Needs.{needs}
 use Rattle.letter_words.proofs.words_of.Statement.{statement}
 use Rattle.letter_words.proofs.words_of.Tie as tie
@@ -30,11 +30,11 @@ abbrev stored : ℕ → LetterWords → ℕ → LetterWords
 stored at w m = record { qubits = w .qubits; first = set (w .first) at m; second = w .second }
 
 abbrev Inv-loop2 : tie.InvT-loop2
-Inv-loop2 n r g qubits count words qubit at x₀ z₀ place₀ x z place =
-    WordsFrom (withGenerators n r g) qubit place x z
+Inv-loop2 n r g qubits count words qubit at both₀ place₀ both place =
+    WordsFrom (withGenerators n r g) qubit place both
 
 abbrev μ-loop2 : tie.MeasureT-loop2
-μ-loop2 n r g qubits count words qubit at x₀ z₀ place₀ x z place = place
+μ-loop2 n r g qubits count words qubit at both₀ place₀ both place = place
 
 abbrev Inv-loop : tie.InvT-loop
 Inv-loop n r g qubits count words₀ qubit₀ at₀ words qubit at =
@@ -52,15 +52,16 @@ code start = withGenerators (start .args .n) (start .args .r) (start .args .t3)
 room : (start : tie.Start Inv-loop2 μ-loop2 Inv-loop μ-loop) → length (start .args .t3) ≡ rowRoom
 room start = search needs
 
-module _ (c : tie.In-loop2 Inv-loop2 μ-loop2 Inv-loop μ-loop) where
-  abbrev start : tie.Start Inv-loop2 μ-loop2 Inv-loop μ-loop
-  start = c .before .before .before .before .before .before
+abbrev start : tie.At-loop2 Inv-loop2 μ-loop2 Inv-loop μ-loop → tie.Start Inv-loop2 μ-loop2 Inv-loop μ-loop
+start at = at .before .before .before .before .before
 
-  x-fits : c .before .loop2 .x < 2 ^ 31
-  x-fits = x-small (c .before .loop2 .inv) (room start) (c .loop2-test .taken)
+small : (c : tie.In-loop2 Inv-loop2 μ-loop2 Inv-loop μ-loop) → c .before .loop2 .both ≤ 4294967297 * (2 ^ 31 - 1)
+small c = both-small (c .before .loop2 .inv) (room (start (c .before))) (c .loop2-test .taken)
 
-  z-fits : c .before .loop2 .z < 2 ^ 31
-  z-fits = z-small (c .before .loop2 .inv) (room start) (c .loop2-test .taken)
+-- ---- all generators
+
+all-passed : (c : tie.After-loop2 Inv-loop2 μ-loop2 Inv-loop μ-loop) → c .before .loop2 .place ≡ 0
+all-passed c = omega (arith, c .loop2-test .left)
 
 -- ---- the needs
 
@@ -82,21 +83,23 @@ loop2-holds c =
 
 loop2-again : tie.Need-loop2-again Inv-loop2 μ-loop2 Inv-loop μ-loop
 loop2-again c =
-    let turn = c .before .before .before in
-    one-more-read (turn .before .loop2 .inv) (room (start turn)) (turn .loop2-test .taken)
+    let turn = c .before .before in
+    one-more-read (turn .before .loop2 .inv) (room (start (turn .before))) (turn .loop2-test .taken)
+    (c .bits-at .ensures)
 
 loop-again : tie.Need-loop-again Inv-loop2 μ-loop2 Inv-loop μ-loop
 loop-again c =
     let turn = c .before .before in
     let loop = turn .before .loop in
-    let code = code (turn .before .before .before .before) in
+    let start = start (c .before) in
+    let room = room start in
     let qubits = turn .before .before .before .at-most .result in
     let inv = c .before .loop2 .inv in
-    let first : c .before .loop2 .place ≡ 0 = omega (arith, c .loop2-test .left) in (
+    let first = all-passed c in (
       omega (arith, loop .inv .0, turn .loop-test .taken),
-      three-more (word code) qubits (loop .at) (loop .qubit - 1)
+      three-more (word (code start)) qubits (loop .at) (loop .qubit - 1)
           (omega (arith, loop .inv .0, turn .loop-test .taken)) (loop .inv .1) stored (λ i table m. refl)
-          (x-read inv first) (y-read inv first) (z-read inv first),
+          (x-read inv room first) (y-read inv room first) (z-read inv room first),
     )
 
 returns : tie.Need-returns Inv-loop2 μ-loop2 Inv-loop μ-loop
@@ -123,16 +126,13 @@ words-of-spec =
     (λ c. search needs)
     (λ c. search needs)
     (λ c. search needs)
-    (λ c. record { fits = omega (arith, x-fits (c .before)) })
-    (λ c. search needs)
-    (λ c. search needs)
-    (λ c. record { fits = omega (arith, x-fits (c .before .before)) })
-    (λ c. record { fits = omega (arith, z-fits (c .before .before)) })
-    (λ c. search needs)
-    (λ c. search needs)
-    (λ c. record { fits = omega (arith, z-fits (c .before .before .before)) })
+    (λ c. record { fits = omega (arith, small (c .before)) })
+    (λ c κs. search needs)
+    (λ c. record { fits = omega (arith, small (c .before .before), c .bits-at .ensures) })
     (λ c. search needs)
     loop2-again
+    (λ c. record { fits = omega (arith, x-fits (c .before .loop2 .inv) (room (start (c .before))) (all-passed c)) })
+    (λ c. search needs)
     (λ c. search needs)
     (λ c. search needs)
     (λ c. search needs)
