@@ -4,7 +4,7 @@ mod decodings;
 
 use crate::admission::{self, Fault};
 use crate::cases::{Case, Kind};
-use crate::group::member;
+use crate::group::{canonical_generators, member};
 use crate::product::{commute, product};
 use crate::record::{put, write_number, write_numbers, Pauli, Record};
 use crate::report;
@@ -105,8 +105,11 @@ fn some_rows(record: &Record) -> String {
     let last = record.r.saturating_sub(1);
     let Record { g, x, z, w, .. } = record;
     let rows = [*w, g[0], x[0], z[0], g[last]];
-    let numbers = rows.map(|Pauli { p, a, b }| format!(" {p} {a} {b}"));
-    format!("rows{}\n", numbers.concat())
+    format!("rows{}\n", rows.map(phase_and_masks).concat())
+}
+
+fn phase_and_masks(Pauli { p, a, b }: Pauli) -> String {
+    format!(" {p} {a} {b}")
 }
 
 /// How many bytes are behind the lines, and these bytes unless they are more than 40.
@@ -186,13 +189,28 @@ fn admission(text: &[u8]) -> String {
     format!("admission {answer}\n") + &numbers_of(&record) + &some_rows(&record)
 }
 
-/// Whether the changed record of a sheet passes its checks. w is said to stand on a line that no sheet has.
+/// Whether the changed record of a sheet passes its checks, and its canonical generators beside that: none where it
+/// does not. w is said to stand on a line that no sheet has.
 fn checks(text: &[u8], change: usize) -> String {
     let mut record = sheet::read_alone(text).map_or(Record::EMPTY, |sheet| Record::of(&sheet));
     record.change(change);
     let answer = admission::check_record(&record, 1000 + change);
+    let generators = record.checked_generators().ok();
+    let rows = generators.filter(|_| answer.is_ok()).unwrap_or_default();
     let answer = verdict(answer.as_ref().map(|()| "passed"));
-    format!("checks {answer}\n")
+    format!("checks {answer}\n") + &canonical(&rows)
+}
+
+/// The count of qubits of the canonical generators of these rows, how many they are, and their phases and masks.
+fn canonical(rows: &[Row]) -> String {
+    let rows = canonical_generators(rows);
+    let n = rows.first().map_or(0, |row| row.letters.len());
+    let paulis = rows.iter().map(Pauli::of).map(phase_and_masks);
+    format!(
+        "canonical {n} {}{}\n",
+        rows.len(),
+        paulis.collect::<String>()
+    )
 }
 
 /// A word, or a refusal; with 14 also the count of qubits, and the phases and masks of the two errors.
@@ -208,8 +226,7 @@ fn pair(errors: &[Vec<Letter>; 2]) -> String {
     let numbers = |letters: &Vec<Letter>| {
         let letters = letters.clone();
         let minus = false;
-        let Pauli { p, a, b } = Pauli::of(&Row { minus, letters });
-        format!(" {p} {a} {b}")
+        phase_and_masks(Pauli::of(&Row { minus, letters }))
     };
     errors.iter().map(numbers).collect()
 }

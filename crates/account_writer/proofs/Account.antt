@@ -11,13 +11,17 @@ use lib.ListN.{length, take, length-append}
 use Rattle.code_record.specs.declared.Code.{Code}
 use Rattle.refusals.specs.declared.Refusal.{Refusal}
 use Rattle.code_record.specs.Record.{mostQubits, rowRoom, generators, logicalCount, radius}
+use Rattle.code_record.proofs.Limits.{limits}
 use Rattle.sheet.specs.Text.{written}
+use Rattle.row_writer.specs.Lines.{qubitFault}
+use Rattle.row_writer.proofs.Lines.{qubits-within}
 use Rattle.rows_writer.specs.Rows.{rowsText}
 use Rattle.rows_writer.proofs.Rows.{length-there}
 use Rattle.reduced_rows.specs.declared.ReducedRows.{ReducedRows}
 use Rattle.reduced_rows.specs.Rows.{rowsIn, reducedOf}
 use Rattle.stabilizer.specs.Canonical.{canonicalGenerators}
 use Rattle.stabilizer.specs.Checks.{groupFault}
+use Rattle.elimination.proofs.Passed.{passed-within}
 use Rattle.canonical.proofs.Text.{text-is}
 use Rattle.letter_words.specs.Words.{syndromeWords}
 use Rattle.reporting.specs.Report.{codeText}
@@ -26,7 +30,8 @@ use Rattle.header_writer.proofs.HeaderCall.{header-begins-code}
 use Rattle.letter_sums.specs.declared.LetterWords.{LetterWords}
 use Rattle.correction_lines.specs.CorrectionLines.{correctionsText, correctionsFit}
 use Rattle.correction_lines.proofs.Fits.{fit-counted}
-use Rattle.account_writer.specs.Account.{codeBy, accountBy, accountText, writeBy, writeAccount}
+use Rattle.account_writer.specs.Account.{codeBy, accountBy, accountText, writeAccount}
+use Rattle.account_writer.specs.Statements.{AccountIsOfRecord}
 
 module _ (c : Code) (hs : ReducedRows) where
   abbrev pub header : List ℕ
@@ -80,19 +85,23 @@ module _ (c : Code) (hs : ReducedRows) (words : LetterWords) (s : List ℕ) wher
 
 -- ---- a record that passes
 
--- By the canonical generators that were found it is the account of the record.
-module _
-    (c : Code) (passes : none ≡ groupFault c) (hs : ReducedRows)
-    (found : hs ≡ reducedOf (c .n) (canonicalGenerators (c .n) (generators c))) where
-  code-is : codeBy c hs ≡ codeText c
+-- By its canonical generators it is the account of the record.
+module _ (c : Code) (passes : groupFault c ≡ none) where
+  abbrev found : ReducedRows
+  found = reducedOf (c .n) (canonicalGenerators (c .n) (generators c))
+
+  code-is : codeBy c found ≡ codeText c
   unfolding rowsIn
   code-is =
-      sym (code-parts c hs) ∙ ap (λ (rows : List ℕ). header c hs ++ rows) (text-is c passes hs found)
+      sym (code-parts c found) ∙ ap (λ (rows : List ℕ). header c found ++ rows) (text-is c (sym passes) found refl)
       ∙ sym (header-begins-code c)
 
-  pub same-account : (s buffer : List ℕ) → writeBy c hs s buffer ≡ writeAccount c s buffer
-  unfolding writeBy writeAccount accountText
-  same-account s buffer =
-      ap₂ (λ (fault : Option Refusal) (text : List ℕ). written fault text buffer) passes
-      (sym (account-parts c hs (syndromeWords c) s)
-      ∙ ap (λ (front : List ℕ). front ++ corrections c hs (syndromeWords c) s) code-is)
+  no-fault : qubitFault (c .n) ≡ none
+  no-fault = let q = limits c (passed-within c (sym passes)) .qubits in qubits-within (c .n) (q .0) (q .1)
+
+pub account-is-of-record : AccountIsOfRecord
+unfolding writeAccount accountText
+account-is-of-record c passes s buffer =
+    ap₂ (λ (fault : Option Refusal) (text : List ℕ). written fault text buffer) (no-fault c passes)
+    (sym (account-parts c (found c passes) (syndromeWords c) s)
+    ∙ ap (λ (front : List ℕ). front ++ corrections c (found c passes) (syndromeWords c) s) (code-is c passes))

@@ -1,14 +1,13 @@
 -- The account of a code in a report, and the call for it.
 use mathlib.Core.List.{List, _++_}
-use mathlib.Core.Option.{none}
 use Prim.Native.Nat.{ℕ}
 use Prim.Native.Char.{code}
 use Rattle.code_record.specs.declared.Code.{Code}
 use Rattle.code_record.specs.Record.{logicalCount, radius}
 use Rattle.refusals.specs.declared.Written.{Written}
 use Rattle.sheet.specs.Text.{After, written}
+use Rattle.row_writer.specs.Lines.{qubitFault}
 use Rattle.rows_writer.specs.Rows.{rowsText}
-use Rattle.stabilizer.specs.Checks.{groupFault}
 use Rattle.reduced_rows.specs.declared.ReducedRows.{ReducedRows}
 use Rattle.reduced_rows.specs.Rows.{rowsIn}
 use Rattle.letter_sums.specs.declared.LetterWords.{LetterWords}
@@ -22,10 +21,6 @@ use Rattle.correction_lines.specs.CorrectionLines.{correctionsText}
 unfoldable pub accountText : Code → List ℕ → List ℕ
 accountText c s = codeText c ++ correctionsText (syndromeWords c) (radius c) (c .r) s
 
--- RULES, "Calls and buffers": the account by itself: 15, then 6 to 8, then 17, then the lines and their length.
-unfoldable pub writeAccount : Code → List ℕ → List ℕ → After Written
-writeAccount c s buffer = written (groupFault c) (accountText c s) buffer
-
 -- The same with rows and words that were made before.
 unfoldable pub codeBy : Code → ReducedRows → List ℕ
 codeBy c hs =
@@ -34,5 +29,7 @@ codeBy c hs =
 unfoldable pub accountBy : Code → ReducedRows → LetterWords → List ℕ → List ℕ
 accountBy c hs words s = codeBy c hs ++ correctionsText words (radius c) (c .r) s
 
-unfoldable pub writeBy : Code → ReducedRows → List ℕ → List ℕ → After Written
-writeBy c hs s buffer = written none (accountBy c hs (syndromeWords c) s) buffer
+-- RULES, "Calls and buffers": the account by rows that are given: 15 where n is not 2 to 24, then 17, then the lines
+-- and their length.
+unfoldable pub writeAccount : Code → ReducedRows → List ℕ → List ℕ → After Written
+writeAccount c hs s buffer = written (qubitFault (c .n)) (accountBy c hs (syndromeWords c) s) buffer

@@ -5,13 +5,11 @@ use code_record::pair_count;
 use correction_lines::corrections_fit;
 use corrections::radius;
 use corrections_writer::write_corrections;
-use elimination::eliminate;
 use header_writer::header_length;
 use header_writer::write_header;
 use letter_sums::LetterWords;
 use letter_words::syndrome_words;
 use reduced_rows::ReducedRows;
-use refusals::Checked;
 use refusals::Refusal;
 use refusals::Written;
 use rows_writer::rows_there;
@@ -22,7 +20,7 @@ ghost use lib.Dec.{leb};
 ghost use lib.ListN.{length};
 ghost use Rattle.code_record.specs.Record.{mostQubits};
 ghost use Rattle.sheet.specs.Text.{laid};
-ghost use Rattle.account_writer.specs.Account.{codeBy, accountBy, writeBy, writeAccount};
+ghost use Rattle.account_writer.specs.Account.{codeBy, accountBy, writeAccount};
 
 // The numbers and the canonical generators, where there is room for them.
 fn code_lines(code: Code, reduced: ReducedRows, out: &mut [u8]) -> usize
@@ -90,34 +88,24 @@ fn account_lines(
     end
 }
 
-// The account by canonical generators that were found: 17, then the lines.
-fn write_by(code: Code, reduced: ReducedRows, syndromes: &[u8], out: &mut [u8]) -> Written
-    requires { ⌜ 2 ≤ code .n ⌝ }
-    requires { ⌜ code .n ≤ mostQubits ⌝ }
-    ensures { λ r. ⌜ r ≡ (writeBy code reduced (now (syndromes .entry)) (now (out .entry))) .answer ⌝ }
-    ensures { λ _. ⌜ now (out .exit) ≡ (writeBy code reduced (now (syndromes .entry)) (now (out .entry))) .buffer ⌝ }
+// The account of a code by canonical generators that were found, and of the `s=` lines with which the bytes begin, into
+// an output buffer: 15 where no code has as many qubits, then 17 where the buffer is shorter than the lines, then the
+// lines' bytes and their count. It makes no other check of the code, since who has its canonical generators has made
+// them.
+pub fn write_account(code: Code, reduced: ReducedRows, syndromes: &[u8], out: &mut [u8]) -> Written
+    ensures { λ r. ⌜ r ≡ (writeAccount code reduced (now (syndromes .entry)) (now (out .entry))) .answer ⌝ }
+    ensures { λ _.
+        ⌜ now (out .exit) ≡ (writeAccount code reduced (now (syndromes .entry)) (now (out .entry))) .buffer ⌝ }
 {
+    if code.n < 2 {
+        return Written::Refused(Refusal::RecordLimits);
+    }
+    if code_record::MOST_QUBITS < code.n {
+        return Written::Refused(Refusal::RecordLimits);
+    }
     let words = syndrome_words(code);
     if !account_fits(code, reduced, words, syndromes, out.len()) {
         return Written::Refused(Refusal::ShortBuffer);
     }
     Written::Count(account_lines(code, reduced, words, syndromes, out))
-}
-
-// The account of a record and of the `s=` lines with which the bytes begin, into an output buffer: 15 where the record
-// is outside its limits, then 6 to 8 with the lines of its written sheet, then 17 where the buffer is shorter than the
-// lines, then the lines' bytes and their count.
-pub fn write_account(code: Code, syndromes: &[u8], out: &mut [u8]) -> Written
-    ensures { λ r. ⌜ r ≡ (writeAccount code (now (syndromes .entry)) (now (out .entry))) .answer ⌝ }
-    ensures { λ _. ⌜ now (out .exit) ≡ (writeAccount code (now (syndromes .entry)) (now (out .entry))) .buffer ⌝ }
-{
-    let generators = eliminate(code);
-    let answer = generators.answer;
-    match answer {
-        Checked::Passed => {}
-        Checked::Refused(refusal) => {
-            return Written::Refused(refusal);
-        }
-    }
-    write_by(code, generators.reduced, syndromes, out)
 }

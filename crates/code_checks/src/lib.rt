@@ -1,8 +1,9 @@
 // The checks 6 to 14 of a record, each made where those before it passed. One elimination, of 6 to 8, gives the
-// canonical generators for 13 and 14.
+// canonical generators for 13 and 14, and they are handed out for what is said of a record that passes.
 use claim_checks::check_claim;
 use code_record::Code;
 use distance::check_distance;
+use elimination::Elimination;
 use elimination::eliminate;
 use logical_checks::check_logicals;
 use reduced_rows::ReducedRows;
@@ -10,9 +11,10 @@ use refusals::Checked;
 ghost use mathlib.Core.Path.{_≡_};
 ghost use Rattle.code_record.specs.Record.{limitsFault};
 ghost use Rattle.refusals.specs.Refusals.{checkedRefusal, _then_};
-ghost use Rattle.admission.specs.Admission.{codeFault};
+ghost use Rattle.admission.specs.Logicals.{detectedFault, pairingFault};
 ghost use Rattle.claim_checks.specs.Claim.{claimFault};
 ghost use Rattle.distance.specs.Search.{distanceBy};
+ghost use Rattle.code_checks.specs.Answers.{checkedCode};
 
 // 11 to 13, then 14.
 fn claim_and_distance(code: Code, reduced: ReducedRows, at: usize) -> Checked
@@ -25,18 +27,36 @@ fn claim_and_distance(code: Code, reduced: ReducedRows, at: usize) -> Checked
     check_distance(code, reduced, at)
 }
 
-// The first fault of a record whose w stands on the line `at`: 15 where it is outside its limits, then 6 to 14.
-pub fn check_code(code: Code, at: usize) -> Checked
-    ensures { λ r. ⌜ checkedRefusal r ≡ (limitsFault code then codeFault at code) ⌝ }
+// 9 and 10, then 11 to 14, with the rows that 6 to 8 gave. The checks of the logicals have 15 before them.
+fn behind_generators(code: Code, reduced: ReducedRows, at: usize) -> Checked
+    ensures { λ r.
+        ⌜ checkedRefusal r
+        ≡ ((limitsFault code then detectedFault code then pairingFault code)
+        then claimFault at code reduced then distanceBy at code reduced) ⌝ }
 {
-    let generators = eliminate(code);
-    let answer = generators.answer;
+    let answer = check_logicals(code);
     let Checked::Passed = answer else {
         return answer;
     };
-    let logicals = check_logicals(code);
-    let Checked::Passed = logicals else {
-        return logicals;
+    claim_and_distance(code, reduced, at)
+}
+
+// The first fault of a record whose w stands on the line `at`: 15 where it is outside its limits, then 6 to 14. Beside
+// it are the canonical generators where there is no fault, and none of them where there is one.
+pub fn check_code(code: Code, at: usize) -> Elimination
+    ensures { λ r. ⌜ r ≡ checkedCode at code ⌝ }
+{
+    let generators = eliminate(code);
+    let first = generators.answer;
+    let Checked::Passed = first else {
+        return generators;
     };
-    claim_and_distance(code, generators.reduced, at)
+    let answer = behind_generators(code, generators.reduced, at);
+    let Checked::Passed = answer else {
+        return Elimination {
+            answer,
+            reduced: ReducedRows::empty(0),
+        };
+    };
+    generators
 }

@@ -1,3 +1,4 @@
+pub mod Answered
 pub mod CheckOrder
 pub mod Numbers
 pub mod Passed

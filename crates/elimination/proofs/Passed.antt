@@ -21,23 +21,18 @@ use Rattle.reduced_rows.proofs.Rows.{rows-of}
 use Rattle.refusals.specs.declared.Checked.{Checked}
 use Rattle.refusals.specs.Refusals.{checkedRefusal}
 use Rattle.elimination.specs.declared.Elimination.{Elimination}
-use Rattle.elimination.specs.Answers.{eliminated, elimination}
+use Rattle.elimination.specs.Answers.{elimination}
 use Rattle.elimination.specs.Statements.{ContainsDecidesMembership}
-use Rattle.elimination.proofs.Numbers.{eliminated-refusal}
+use Rattle.elimination.proofs.Answered.{fault-answered, rows-answered}
 
 module _ (c : Code) {e : Elimination} (known : e ≡ elimination c) where
   pub fault-told : {checked : Checked} → e .answer ≡ checked → checkedRefusal checked ≡ groupFault c
   unfolding elimination
-  fault-told told =
-      ap checkedRefusal (sym told) ∙ ap (λ r. checkedRefusal (r .answer)) known
-      ∙ eliminated-refusal (groupFault c) (c .n) (canonicalGenerators (c .n) (generators c))
+  fault-told told = fault-answered _ _ _ known told
 
   pub rows-told : e .answer ≡ Checked.Passed → e .reduced ≡ reducedOf (c .n) (canonicalGenerators (c .n) (generators c))
-  unfolding elimination eliminated
-  rows-told told =
-      ap (λ r. r .reduced) known
-      ∙ ap (λ fault. eliminated fault (c .n) (canonicalGenerators (c .n) (generators c)) .reduced)
-      (sym (fault-told told))
+  unfolding elimination
+  rows-told told = rows-answered _ _ _ known told
 
 -- A record that passes is within limits, and its generators are independent.
 module _ (c : Code) (passes : none ≡ groupFault c) where

@@ -8,7 +8,7 @@ use native.Mathlib.Omega.{arith}
 use lib.ListN.{length}
 use Rattle.code_record.specs.declared.Code.{Code}
 use Rattle.code_record.specs.declared.LinesReading.{LinesReading}
-use Rattle.code_record.specs.Record.{mostQubits, rowRoom, limitsFault}
+use Rattle.code_record.specs.Record.{mostQubits, rowRoom, generators, limitsFault}
 use Rattle.code_record.proofs.Limits.{limits, within-later}
 use Rattle.refusals.specs.declared.ErrorPair.{ErrorPair}
 use Rattle.refusals.specs.declared.Lines.{Lines}
@@ -22,7 +22,10 @@ use Rattle.sheet.specs.Statements.{ReadIsLawful}
 use Rattle.sheet.proofs.Outcome.{what-was-got}
 use Rattle.sheet.proofs.ReadBack.{reads-are-lawful, read-within, rest-is-behind}
 use Rattle.row_writer.proofs.Lines.{qubits-within}
+use Rattle.stabilizer.specs.Canonical.{canonicalGenerators}
 use Rattle.stabilizer.specs.Checks.{groupFault}
+use Rattle.reduced_rows.specs.declared.ReducedRows.{ReducedRows}
+use Rattle.reduced_rows.specs.Rows.{reducedOf}
 use Rattle.admission.specs.Admission.{codeFault}
 use Rattle.decoder.proofs.SyndromeLaws.{generators-pass}
 use Rattle.reporting.specs.Report.{refusalText, codeText, reportOfSyndromes, reportOfCode, reportOfLines}
@@ -40,6 +43,7 @@ use Rattle.syndrome_lines.specs.SyndromeLines.{checkLines, linesFault}
 use Rattle.syndrome_lines.proofs.InReports.{syndrome-lines-are-read}
 use Rattle.correction_lines.proofs.InReports.{correction-lines-are-reported}
 use Rattle.account_writer.specs.Account.{accountText, writeAccount}
+use Rattle.account_writer.proofs.Account.{account-is-of-record}
 use Rattle.report_writer.specs.Reports.{writeByFault, writeChecked}
 
 -- ---- a refusal
@@ -156,34 +160,42 @@ module _ (input buffer : List ℕ) where
       few-rows : own .r ≤ rowRoom
       few-rows = omega (arith, limits own (lawful .limits) .generatorCount, limits own (lawful .limits) .qubits)
 
-      account-is : (syndromes : List (List Bool)) → linesFrom own (at + 1) (g .rest) ≡ got syndromes []
-          → writeAccount own (g .rest) buffer ≡ writeReport input buffer
-      unfolding writeAccount accountText reportOfSyndromes
-      account-is syndromes lines =
-          ap₂ (λ (fault : Option Refusal) (text : List ℕ). written fault text buffer) group-passes
-          (ap (λ (corrections : List ℕ). codeText own ++ corrections)
-          (correction-lines-are-reported own (at + 1) (g .rest) syndromes (lawful .sized) (lawful .limits) lines))
-          ∙ as-report (report-by-lines (got syndromes []) lines)
+      -- The rows that the checks gave are the record's canonical generators.
+      module _
+          (hs : ReducedRows) (found : hs ≡ reducedOf (own .n) (canonicalGenerators (own .n) (generators own))) where
+        account-is : (syndromes : List (List Bool)) → linesFrom own (at + 1) (g .rest) ≡ got syndromes []
+            → writeAccount own hs (g .rest) buffer ≡ writeReport input buffer
+        unfolding accountText reportOfSyndromes
+        account-is syndromes lines =
+            ap (λ (rows : ReducedRows). writeAccount own rows (g .rest) buffer) found
+            ∙ account-is-of-record own group-passes (g .rest) buffer
+            ∙ ap (λ (corrections : List ℕ). written none (codeText own ++ corrections) buffer)
+            (correction-lines-are-reported own (at + 1) (g .rest) syndromes (lawful .sized) (lawful .limits) lines)
+            ∙ as-report (report-by-lines (got syndromes []) lines)
 
-      by-lines : (checked : SyndromeLines) → checkLines (own .r) (g .rest) ≡ checked
-          → writeByFault own (g .rest) buffer (linesFault (at + 1) checked) ≡ writeReport input buffer
-      unfolding writeByFault linesFault reportOfSyndromes pairFault errorsFault
-      by-lines SyndromeLines.Read e =
-          let told = syndrome-lines-are-read .read own (at + 1) (g .rest) (ap (linesFault (at + 1)) e) in
-          account-is (told .0) (told .1)
-      by-lines (SyndromeLines.OffForm m) e =
-          refusal-is-written (Refusal.Syndrome (at + 1 + m)) buffer refl
-          ∙ as-report
-          (report-by-lines _
-          (syndrome-lines-are-read .offForm own (at + 1) (g .rest) _ few-rows (ap (linesFault (at + 1)) e)))
+        by-lines : (checked : SyndromeLines) → checkLines (own .r) (g .rest) ≡ checked
+            → writeByFault own hs (g .rest) buffer (linesFault (at + 1) checked) ≡ writeReport input buffer
+        unfolding writeByFault linesFault reportOfSyndromes pairFault errorsFault
+        by-lines SyndromeLines.Read e =
+            let told = syndrome-lines-are-read .read own (at + 1) (g .rest) (ap (linesFault (at + 1)) e) in
+            account-is (told .0) (told .1)
+        by-lines (SyndromeLines.OffForm m) e =
+            refusal-is-written (Refusal.Syndrome (at + 1 + m)) buffer refl
+            ∙ as-report
+            (report-by-lines _
+            (syndrome-lines-are-read .offForm own (at + 1) (g .rest) _ few-rows (ap (linesFault (at + 1)) e)))
 
-      pub checked-report : writeChecked (reading .code) (reading .«claim_at») (behind input (reading .answer)) buffer
+      pub checked-report : (hs : ReducedRows)
+          → hs ≡ reducedOf (reading .code .n) (canonicalGenerators (reading .code .n) (generators (reading .code)))
+          → writeChecked (reading .code) hs (reading .«claim_at») (behind input (reading .answer)) buffer
           ≡ writeReport input buffer
       unfolding writeChecked
-      checked-report =
-          ap₂ (λ (c : Code) (m : ℕ). writeChecked c m (behind input (reading .answer)) buffer) (g .code) (g .claim)
-          ∙ ap (λ (s : List ℕ). writeChecked own at s buffer) (g .left)
-          ∙ by-lines (checkLines (own .r) (g .rest)) refl
+      checked-report hs found =
+          ap₂ (λ (c : Code) (m : ℕ). writeChecked c hs m (behind input (reading .answer)) buffer) (g .code) (g .claim)
+          ∙ ap (λ (s : List ℕ). writeChecked own hs at s buffer) (g .left)
+          ∙ by-lines hs
+          (found ∙ ap (λ (c : Code). reducedOf (c .n) (canonicalGenerators (c .n) (generators c))) (g .code))
+          (checkLines (own .r) (g .rest)) refl
 
     -- The numbers of the lines behind w are small.
     pub few-lines : reading .«claim_at» + length (behind input (reading .answer)) + 1 < 2 ^ 64

@@ -2,6 +2,7 @@
 use account_writer::write_account;
 use code_checks::check_code;
 use code_record::Code;
+use reduced_rows::ReducedRows;
 use refusal_writer::write_refusal;
 use refusals::Checked;
 use refusals::Lines;
@@ -17,14 +18,21 @@ ghost use Rattle.reporting.specs.Statements.{GuaranteedReport};
 ghost use Rattle.report_writer.specs.Reports.{writeChecked};
 
 // What a report says of a code that passed its checks, with w on the line `at` and these bytes behind it: 16 at the
-// first line that is no syndrome's, or the account of the code.
-fn report_of_code(code: Code, at: usize, behind: &[u8], out: &mut [u8]) -> Written
+// first line that is no syndrome's, or the account of the code, by the canonical generators that the checks gave.
+fn report_of_code(
+    code: Code,
+    reduced: ReducedRows,
+    at: usize,
+    behind: &[u8],
+    out: &mut [u8],
+) -> Written
     requires { ⌜ at + length (now behind) + 1 < 2 ^ 64 ⌝ }
-    ensures { λ r. ⌜ r ≡ (writeChecked code at (now (behind .entry)) (now (out .entry))) .answer ⌝ }
-    ensures { λ _. ⌜ now (out .exit) ≡ (writeChecked code at (now (behind .entry)) (now (out .entry))) .buffer ⌝ }
+    ensures { λ r. ⌜ r ≡ (writeChecked code reduced at (now (behind .entry)) (now (out .entry))) .answer ⌝ }
+    ensures { λ _.
+        ⌜ now (out .exit) ≡ (writeChecked code reduced at (now (behind .entry)) (now (out .entry))) .buffer ⌝ }
 {
     match check_syndromes(behind, code.r) {
-        SyndromeLines::Read => write_account(code, behind, out),
+        SyndromeLines::Read => write_account(code, reduced, behind, out),
         SyndromeLines::OffForm(before) => { write_refusal(Refusal::Syndrome(at + 1 + before), out) }
     }
 }
@@ -45,8 +53,16 @@ pub fn write_report(input: &[u8], out: &mut [u8]) -> Written
         return write_refusal(refusal, out);
     }
     let code = reading.code;
-    if let Checked::Refused(refusal) = check_code(code, reading.claim_at) {
+    let checks = check_code(code, reading.claim_at);
+    let answer = checks.answer;
+    if let Checked::Refused(refusal) = answer {
         return write_refusal(refusal, out);
     }
-    report_of_code(code, reading.claim_at, sheet_end::behind(input, lines), out)
+    report_of_code(
+        code,
+        checks.reduced,
+        reading.claim_at,
+        sheet_end::behind(input, lines),
+        out,
+    )
 }

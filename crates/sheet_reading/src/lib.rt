@@ -26,7 +26,9 @@ fn refused(refusal: Refusal) -> Reading
 fn judged(code: Code, at: usize) -> Reading
     ensures { λ r. ⌜ r ≡ readingOf code (limitsFault code then codeFault at code) ⌝ }
 {
-    match check_code(code, at) {
+    let checks = check_code(code, at);
+    let answer = checks.answer;
+    match answer {
         Checked::Passed => Reading {
             answer: Admission::Admitted,
             code,

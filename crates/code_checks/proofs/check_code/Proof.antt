@@ -1,6 +1,5 @@
 -- The checks in their order, each where those before it passed.
-use mathlib.Core.Path.{_∙_}
-use Rattle.code_checks.proofs.CheckOrder.{generators-refused, logicals-refused, weights-decide}
+use Rattle.code_checks.proofs.CheckOrder.{generators-refused, later-refused, later-passed}
 use borrow.Author.Needs.{needs}
 use Rattle.code_checks.proofs.check_code.Statement.{statement}
 use Rattle.code_checks.proofs.check_code.Tie as tie
@@ -12,24 +11,23 @@ returns c =
 
 returns-2 : tie.Need-returns-2
 returns-2 c =
-    let told = c .before .before .before in
+    let later = c .before in
+    let told = later .before .before .before in
     let a = told .before .before .before .args in
-    logicals-refused (a .at) (a .code) (told .before .before .eliminate .ensures) (told .enum-told .given .1)
-    (c .before .before .check-logicals .result) (c .before .before .check-logicals .ensures)
-    (c .enum-told4 .given .1)
+    later-refused (a .at) (a .code) (told .before .before .eliminate .ensures) (told .enum-told .given .1)
+    (later .before .before .behind-generators .result) (later .before .before .behind-generators .ensures)
+    (later .enum-told4 .given .1) (c .empty .ensures)
 
 returns-3 : tie.Need-returns-3
 returns-3 c =
-    let second = c .before in
-    let told = second .before .before .before in
+    let told = c .before .before .before in
     let a = told .before .before .before .args in
-    c .claim-and-distance .ensures
-    ∙ weights-decide (a .at) (a .code) (told .before .before .eliminate .ensures) (told .enum-told .given .1)
-    (second .before .before .check-logicals .result) (second .before .before .check-logicals .ensures)
-    (second .enum-told3 .given .1)
+    later-passed (a .at) (a .code) (told .before .before .eliminate .ensures) (told .enum-told .given .1)
+    (c .before .before .behind-generators .result) (c .before .before .behind-generators .ensures)
+    (c .enum-told3 .given .1)
 
 pub check-code-spec : {M : Type 1} → statement M
 check-code-spec =
     tie.close
     (tie.spec (λ c κs. search needs) (λ c. search needs) (λ c. search needs) returns (λ c κs. search needs)
-    (λ c. search needs) (λ c. search needs) returns-2 (λ c κs. search needs) returns-3)
+    (λ c. search needs) (λ c. search needs) (λ c κs. search needs) returns-2 returns-3)

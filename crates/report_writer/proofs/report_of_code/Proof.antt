@@ -25,11 +25,12 @@ module _ (c : tie.After-check-syndromes) where
   buffer = start .args .out .now
 
   by-answer : {answer : SyndromeLines} → c .check-syndromes .result ≡ answer
-      → writeByFault (start .args .code) s buffer (linesFault (start .args .at + 1) answer)
-      ≡ writeChecked (start .args .code) (start .args .at) s buffer
+      → writeByFault (start .args .code) (start .args .reduced) s buffer (linesFault (start .args .at + 1) answer)
+      ≡ writeChecked (start .args .code) (start .args .reduced) (start .args .at) s buffer
   unfolding writeChecked
   by-answer told =
-      ap (λ lines. writeByFault (start .args .code) s buffer (linesFault (start .args .at + 1) lines))
+      let a = start .args in
+      ap (λ lines. writeByFault (a .code) (a .reduced) s buffer (linesFault (a .at + 1) lines))
       (sym told ∙ c .check-syndromes .ensures)
 
   -- The lines before a fault are no more than the bytes.
@@ -48,8 +49,8 @@ refused c = c .write-refusal .ensures .0
 
 -- ---- the needs
 
-add-t11 : tie.Need-add-t11
-add-t11 c =
+add-t12 : tie.Need-add-t12
+add-t12 c =
     let checks = c .before .before .before in
     record { fits = omega (arith, few checks (c .before .before2 .given .1), start checks .pre) }
 
@@ -78,7 +79,7 @@ report-of-code-spec =
     (λ c κs. search needs)
     (λ c. search needs)
     (λ c. search needs)
-    add-t11
+    add-t12
     (λ c κs. search needs)
     (λ c. search needs)
     returns

@@ -1,7 +1,7 @@
 -- The report by what was read and checked. The third guarantee holds of what the call leaves, since it holds of the
 -- definition.
 use mathlib.Core.List.{List}
-use mathlib.Core.Path.{_≡_, ap, sym, _∙_}
+use mathlib.Core.Path.{_≡_, ap, _∙_}
 use Prim.Native.Nat.{ℕ}
 use native.Mathlib.Omega.{arith}
 use lib.ListN.{length}
@@ -10,6 +10,7 @@ use Rattle.refusals.specs.declared.Checked.{Checked}
 use Rattle.refusals.specs.declared.Lines.{Lines}
 use Rattle.refusals.specs.Refusals.{checkedRefusal}
 use Rattle.admission.specs.Admission.{codeFault}
+use Rattle.code_checks.proofs.CheckOrder.{checked-fault, checked-rows}
 use Rattle.report_writer.specs.Reports.{writeChecked}
 use Rattle.report_writer.proofs.Reports.{LinesGot, lines-stopped, lines-got, stopped-report, code-fault}
 use Rattle.report_writer.proofs.Reports.{faulty-report, checked-report, few-lines, ends-with}
@@ -45,11 +46,11 @@ module _ (c : tie.After-check-code) where
   was-got = got lines (c .before .before .enum-told .given .1)
 
   -- The fault of the record that was read is what they answered.
-  fault : {checked : Checked} → c .check-code .result ≡ checked
+  fault : {checked : Checked} → c .check-code .result .answer ≡ checked
       → codeFault (was-got .read .claimAt) (was-got .read .code) ≡ checkedRefusal checked
   fault told =
       code-fault (input lines) (buffer lines) (reading lines) was-got _
-      (ap checkedRefusal (sym told) ∙ c .check-code .ensures)
+      (checked-fault (reading lines .«claim_at») (reading lines .code) (c .check-code .ensures) told)
 
 -- ---- the needs
 
@@ -70,8 +71,8 @@ returns-2 c =
     let checks = told .before .before in
     let read = lines checks in
     ends-with (input read) (buffer read)
-    (faulty-report (input read) (buffer read) (reading read) (was-got checks) (told .refusal .given .0 .0)
-    (fault checks (told .refusal .given .1)))
+    (faulty-report (input read) (buffer read) (reading read) (was-got checks) (told .answer .given .0 .0)
+    (fault checks (told .answer .given .1)))
     (call .ensures .0) (call .ensures .1)
 
 report-of-code-requires : tie.Need-report-of-code-requires
@@ -89,13 +90,15 @@ returns-3 c =
     let call = c .before .before .report-of-code in
     let behind = c .before .before .before .before in
     let checks = behind .before .before .before in
+    let passed = behind .before .enum-told2 .given .1 in
     let read = lines checks in
-    let rest = ap (λ (s : List ℕ). writeChecked (reading read .code) (reading read .«claim_at») s (buffer read))
+    let hs = checks .check-code .result .reduced in
+    let rest = ap (λ (s : List ℕ). writeChecked (reading read .code) hs (reading read .«claim_at») s (buffer read))
     (behind .behind .ensures) in
     ends-with (input read) (buffer read)
     (rest
-    ∙ checked-report (input read) (buffer read) (reading read) (was-got checks)
-    (fault checks (behind .before .enum-told2 .given .1)))
+    ∙ checked-report (input read) (buffer read) (reading read) (was-got checks) (fault checks passed) hs
+    (checked-rows (reading read .«claim_at») (reading read .code) (checks .check-code .ensures) passed))
     (call .ensures .0) (call .ensures .1)
 
 pub write-report-spec : {M : Type 1} → statement M

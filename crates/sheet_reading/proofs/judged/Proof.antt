@@ -1,18 +1,20 @@
 -- What the checks answer is the fault by which the reading goes.
-use mathlib.Core.Path.{_≡_, ap, sym, _∙_}
+use mathlib.Core.Path.{_≡_, ap, _∙_}
 use Rattle.code_record.specs.Record.{limitsFault}
 use Rattle.refusals.specs.declared.Checked.{Checked}
 use Rattle.refusals.specs.Refusals.{checkedRefusal, _then_}
 use Rattle.admission.specs.Admission.{codeFault, admitted, readingOf}
+use Rattle.code_checks.proofs.CheckOrder.{checked-fault}
 use borrow.Author.Needs.{needs}
 use Rattle.sheet_reading.proofs.judged.Statement.{statement}
 use Rattle.sheet_reading.proofs.judged.Tie as tie
 
-answered : (c : tie.After-check-code) {answer : Checked} → c .check-code .result ≡ answer
+answered : (c : tie.After-check-code) {answer : Checked} → c .check-code .result .answer ≡ answer
     → let a = c .before .args in
     readingOf (a .code) (checkedRefusal answer)
     ≡ readingOf (a .code) (limitsFault (a .code) then codeFault (a .at) (a .code))
-answered c told = ap (readingOf (c .before .args .code)) (ap checkedRefusal (sym told) ∙ c .check-code .ensures)
+answered c told =
+    let a = c .before .args in ap (readingOf (a .code)) (checked-fault (a .at) (a .code) (c .check-code .ensures) told)
 
 returns : tie.Need-returns
 unfolding readingOf admitted
@@ -21,7 +23,7 @@ returns c = answered (c .before .before) (c .enum-told .given .1)
 returns-2 : tie.Need-returns-2
 unfolding readingOf
 returns-2 c =
-    c .refused .ensures ∙ answered (c .before .before .before .before) (c .before .before .refusal .given .1)
+    c .refused .ensures ∙ answered (c .before .before .before .before) (c .before .before .answer .given .1)
 
 pub judged-spec : {M : Type 1} → statement M
 judged-spec =
