@@ -20,6 +20,8 @@ use Rattle.elimination.proofs.Passed.{fault-told, contains-decides-membership}
 use Rattle.admission.specs.Admission.{faultButDistance, codeFault}
 use Rattle.admission.specs.Distance.{claimedWeightFault, claimedDetectedFault, claimedInGroupFault, distanceFault}
 use Rattle.admission.specs.Logicals.{detectedFault, pairingFault}
+use Rattle.logical_checks.specs.Limits.{qubitFault}
+use Rattle.logical_checks.proofs.Limits.{within-limits-passes}
 use Rattle.claim_checks.specs.Claim.{claimFault}
 use Rattle.claim_checks.proofs.Theorems.{claim-checks-are-of-admission}
 use Rattle.distance.specs.Search.{distanceBy}
@@ -53,13 +55,14 @@ module _ (at : ℕ) (c : Code) {e : Elimination} (known : e ≡ elimination c) w
   module _
       (passed : e .answer ≡ Checked.Passed) (checked : Checked)
       (found : checkedRefusal checked
-      ≡ ((limitsFault c then logicals) then claimFault at c (e .reduced) then distanceBy at c (e .reduced))) where
+      ≡ ((qubitFault c then logicals) then claimFault at c (e .reduced) then distanceBy at c (e .reduced))) where
     -- A record that passes 6 to 8 is within limits, so the logicals are refused for no other fault than theirs.
-    within : (limitsFault c then logicals) ≡ logicals
+    within : (qubitFault c then logicals) ≡ logicals
     unfolding _then_ groupFault
     within =
         ap (λ l. l then logicals)
-        (first-none (limitsFault c) (generatorFault (generatorsAt c) (generators c)) (sym (fault-told c known passed)))
+        (within-limits-passes c
+        (first-none (limitsFault c) (generatorFault (generatorsAt c) (generators c)) (sym (fault-told c known passed))))
 
     by-rows : (claimFault at c (e .reduced) then distanceBy at c (e .reduced)) ≡ weights
     by-rows =

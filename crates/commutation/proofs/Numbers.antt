@@ -9,5 +9,5 @@ use Rattle.commutation.specs.Statements.{CommutationRefusalNumbers}
 
 pub commutation-refusal-numbers : CommutationRefusalNumbers
 unfolding clash anyOf
-commutation-refusal-numbers c =
+commutation-refusal-numbers r g =
     law-of-refusal (first-lawful clash (λ before at P. refuseIf-lawful _ _ refl) [] _ _)

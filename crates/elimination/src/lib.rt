@@ -65,7 +65,8 @@ pub fn eliminate(code: Code) -> Elimination
     if !record_limits::within_limits(code) {
         return refused(Refusal::RecordLimits);
     }
-    let answer = commutation::generators_commute(code);
+    let g = code.g;
+    let answer = commutation::generators_commute(code.r, g);
     let Checked::Passed = answer else {
         return Elimination {
             answer,

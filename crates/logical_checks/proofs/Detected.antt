@@ -2,14 +2,13 @@
 -- from the next place on.
 use mathlib.Core.Bool.{Bool, true, false}
 use mathlib.Core.Path.{_≡_, refl, ap, ap₂, sym, _∙_}
-use Prim.Native.Nat.{ℕ, _+_, _*_, _≤_}
+use Prim.Native.Nat.{ℕ, _+_, _*_, _<_, _≤_}
 use native.Mathlib.Omega.{arith}
 use Rattle.letters.specs.Lists.{anyOf}
 use Rattle.pauli.specs.declared.Pauli.{Pauli}
 use Rattle.pauli.specs.Product.{anticommutes}
 use Rattle.code_record.specs.declared.Code.{Code}
-use Rattle.code_record.specs.Record.{pairCount, generators, logicalsAt, withinLimits, Sized}
-use Rattle.code_record.proofs.Limits.{limits}
+use Rattle.code_record.specs.Record.{mostQubits, pairCount, generators, logicalsAt, Sized}
 use Rattle.refusals.specs.declared.Refusal.the-variants.{LogicalAnticommutes}
 use Rattle.refusals.specs.Refusals.{refuseIf, _then_}
 use Rattle.admission.specs.Logicals.{familyAt, detected, detectedFault}
@@ -17,22 +16,22 @@ use Rattle.logical_pairs.specs.FaultAt.{faultAt}
 use Rattle.logical_pairs.proofs.LogicalPlaces.{Known, known, Logical, family-after}
 use Rattle.logical_pairs.proofs.Faults.{fault-inside, fault-behind, From, from-first, from-here, from-end}
 
--- A record within limits: all its rows have room in its arrays.
+-- A record with no more qubits than a sheet: all its logicals have room in its arrays, and where there are any so have
+-- its generators.
 pub record Within (code : Code) (pairs : ℕ) : Type 0 where
   pub known : Known code pairs pairs
-  pub few : pairs ≤ 23
-  pub fewRows : code .r ≤ 23
+  pub few : pairs ≤ mostQubits
+  pub fewRows : 0 < pairs → code .r < mostQubits
 
-pub within : (code : Code) → Sized code → withinLimits code ≡ true → {pairs : ℕ}
+pub within : (code : Code) → Sized code → code .n ≤ mostQubits → {pairs : ℕ}
     → pairs ≡ pairCount (code .n) (code .r) → Within code pairs
 unfolding pairCount
 within code sized limited {pairs} counted =
-    let l = limits code limited in
-    let few : pairs ≤ 23 = omega (arith, l .qubits, l .generatorCount, counted) in
+    let few : pairs ≤ mostQubits = omega (arith, limited, counted) in
     record {
       known = known code sized counted (omega (arith, few));
       few = few;
-      fewRows = omega (arith, l .qubits, l .generatorCount);
+      fewRows = λ some. omega (arith, limited, counted);
     }
 
 -- What is found from a place on is all that there is.

@@ -1,18 +1,20 @@
 // The checks of a record's logicals: 9, then 10 (`logical_pairs`). The record goes by value, which copies it, so a
 // check reads the rows in loops of its own, which call nothing that takes the record.
 use code_record::Code;
+use code_record::MOST_QUBITS;
 use code_record::pair_count;
 use logical_pairs::first_unpaired;
 use refusals::Checked;
 use refusals::Family;
 use refusals::Refusal;
-ghost use mathlib.Core.Bool.{true};
 ghost use mathlib.Core.Path.{_≡_};
-ghost use Rattle.code_record.specs.Record.{withinLimits, limitsFault};
+ghost use Prim.Native.Nat.{_≤_};
+ghost use Rattle.code_record.specs.Record.{mostQubits};
 ghost use Rattle.refusals.specs.Refusals.{checkedRefusal, _then_};
 ghost use Rattle.refusals.specs.declared.Refusal.the-variants.{LogicalAnticommutes};
 ghost use Rattle.admission.specs.Logicals.{familyAt, detectedFault, pairingFault};
 ghost use Rattle.logical_pairs.specs.FaultAt.{faultAt};
+ghost use Rattle.logical_checks.specs.Limits.{qubitFault};
 
 // The family of the logical at a place, which counts from 0: the x rows come first.
 fn family_at(pairs: usize, place: usize) -> Family
@@ -26,7 +28,7 @@ fn family_at(pairs: usize, place: usize) -> Family
 
 // The place of the first logical that anticommutes with a generator; that behind the last logical where all commute.
 fn first_detected(code: Code) -> usize
-    requires { ⌜ withinLimits code ≡ true ⌝ }
+    requires { ⌜ code .n ≤ mostQubits ⌝ }
     ensures { λ r. ⌜ faultAt LogicalAnticommutes code r ≡ detectedFault code ⌝ }
 {
     let pairs = pair_count(code.n, code.r);
@@ -49,26 +51,26 @@ fn first_detected(code: Code) -> usize
     place
 }
 
-// The checks of the logicals: 15 where the record is outside its limits, then 9 over all logicals, then 10.
+// The checks of the logicals: 15 where the record has more qubits than a sheet, so that every line is a usize; then 9
+// over all logicals, then 10. The other limits are not asked for.
 pub fn check_logicals(code: Code) -> Checked
-    ensures { λ r. ⌜ checkedRefusal r ≡ (limitsFault code then detectedFault code then pairingFault code) ⌝ }
+    ensures { λ r. ⌜ checkedRefusal r ≡ (qubitFault code then detectedFault code then pairingFault code) ⌝ }
 {
-    if !record_limits::within_limits(code) {
+    if MOST_QUBITS < code.n {
         return Checked::Refused(Refusal::RecordLimits);
     }
     let pairs = pair_count(code.n, code.r);
-    let first = code.generators_at() + code.r;
     let detected = first_detected(code);
     if detected < 2 * pairs {
         return Checked::Refused(Refusal::LogicalAnticommutes(
-            first + detected,
+            code.generators_at() + code.r + detected,
             family_at(pairs, detected),
         ));
     }
     let unpaired = first_unpaired(code);
     if unpaired < 2 * pairs {
         return Checked::Refused(Refusal::LogicalPairing(
-            first + unpaired,
+            code.generators_at() + code.r + unpaired,
             family_at(pairs, unpaired),
         ));
     }

@@ -1,5 +1,6 @@
 //! The calls of the library once more, as one would write them in Rust for speed: with masks, and without `unsafe`. The
-//! benchmark has them beside the library. They answer as it does, refusals included.
+//! benchmark has them beside the library. They answer as it does, refusals included, and take a record by value, as the
+//! interface has it.
 //!
 //! The search has two forms, which a caller names: `Scan` and `Table`.
 
@@ -30,9 +31,10 @@ pub fn read_sheet<W: Walk>(bytes: &[u8]) -> Result<Code, RefusedSheet> {
 }
 
 /// Writes the canonical generators of a record, and answers how many bytes they have.
-pub fn canonical(code: &Code, out: &mut [u8]) -> Result<usize, Refusal> {
-    check_limits(code)?;
-    let rows = checks::check_generators(code)?;
+#[inline(never)]
+pub fn canonical(code: Code, out: &mut [u8]) -> Result<usize, Refusal> {
+    check_limits(&code)?;
+    let rows = checks::check_generators(&code)?;
     let mut text = Vec::with_capacity(code.r * (code.n + 4));
     put_canonical(&mut text, code.n, &rows);
     put(&text, out)

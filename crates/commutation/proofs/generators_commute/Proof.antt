@@ -1,22 +1,20 @@
 -- 6 is found at the first row that clashes with one before it: the rows are tried in turn, each against those before it
 -- in turn, and what the check finds from here on is what it finds from the beginning.
 use mathlib.Core.Bool.{Bool, not}
-use mathlib.Core.List.{[]}
+use mathlib.Core.List.{List, []}
 use mathlib.Core.Logic.{_⊎_, inl, inr}
-use mathlib.Core.Option.{Option, none}
+use mathlib.Core.Option.{none}
 use mathlib.Core.Path.{_≡_, refl, ap, sym, _∙_}
-use Prim.Native.Nat.{ℕ, _+_, _-_, _<_, _≤_}
+use Prim.Native.Nat.{ℕ, _+_, _-_, _≤_}
 use native.Mathlib.Omega.{arith}
 use lib.ListN.{length, take, getD}
 use Rattle.pauli.specs.declared.Pauli.{Pauli}
-use Rattle.code_record.specs.declared.Code.{Code}
 use Rattle.refusals.specs.declared.Family.{Family}
 use Rattle.refusals.specs.declared.Refusal.{Refusal}
 use Rattle.letters.specs.Lists.{anyOf}
 use Rattle.pauli.specs.Product.{identity, anticommutes}
 use Rattle.refusals.specs.Refusals.{refuseIf, _then_}
-use Rattle.code_record.specs.Record.{rowRoom, generators, generatorsAt}
-use Rattle.code_record.proofs.ArrayLengths.{sized-of}
+use Rattle.code_record.specs.Record.{rowRoom, firstGeneratorAt}
 use Rattle.stabilizer.specs.Checks.{firstFault, clash}
 use Rattle.stabilizer.proofs.Walk.{Left, fault-start, fault-at, fault-end}
 use Rattle.commutation.proofs.AnyRow.{Tried, tried-none, tried-all, tried-passes, tried-more}
@@ -26,35 +24,29 @@ use Rattle.commutation.proofs.generators_commute.Statement.{statement}
 use Rattle.commutation.proofs.generators_commute.Tie as tie
 
 abbrev Inv-loop2 : tie.InvT-loop2
-Inv-loop2 code first place p earlier₀ earlier = Tried (anticommutes p) (code .g) place earlier
+Inv-loop2 r g place p earlier₀ earlier = Tried (anticommutes p) g place earlier
 
 abbrev μ-loop2 : tie.MeasureT-loop2
-μ-loop2 code first place p earlier₀ earlier = place - earlier
+μ-loop2 r g place p earlier₀ earlier = place - earlier
 
 abbrev Inv-loop : tie.InvT-loop
-Inv-loop code first place₀ place =
-    Left clash (code .g) (code .r) place first ≡ firstFault clash [] first (generators code)
+Inv-loop r g place₀ place =
+    Left clash g r place firstGeneratorAt ≡ firstFault clash [] firstGeneratorAt (take r g)
 
 abbrev μ-loop : tie.MeasureT-loop
-μ-loop code first place₀ place = rowRoom - place
+μ-loop r g place₀ place = rowRoom - place
 
--- ---- before the loop
+-- ---- the rows
 
-module _ (c : tie.After-generators-at Inv-loop2 μ-loop2 Inv-loop μ-loop) where
-  abbrev code : Code
-  code = c .before .args .t1
+module _ (s : tie.Start Inv-loop2 μ-loop2 Inv-loop μ-loop) where
+  abbrev r : ℕ
+  r = s .args .r
 
-  room : length (code .g) ≡ rowRoom
-  room = sized-of code (c .before .good .0) .roomG
+  abbrev g : List Pauli
+  g = s .args .t2
 
-  line-small : c .generators-at .result ≤ 3
-  unfolding generatorsAt
-  line-small = omega (arith, c .generators-at .ensures)
-
-  -- What is found by the line of the first generator.
-  by-line : {fault : Option Refusal} → fault ≡ firstFault clash [] (c .generators-at .result) (generators code)
-      → fault ≡ firstFault clash [] (generatorsAt code) (generators code)
-  by-line e = e ∙ ap (λ line. firstFault clash [] line (generators code)) (c .generators-at .ensures)
+  room : length g ≡ rowRoom
+  room = search needs
 
 -- ---- the row here
 
@@ -62,30 +54,24 @@ module _ (c : tie.At-loop2 Inv-loop2 μ-loop2 Inv-loop μ-loop) where
   abbrev at : tie.At-loop Inv-loop2 μ-loop2 Inv-loop μ-loop
   at = c .before .before .before .before
 
-  abbrev s : tie.After-generators-at Inv-loop2 μ-loop2 Inv-loop μ-loop
+  abbrev s : tie.Start Inv-loop2 μ-loop2 Inv-loop μ-loop
   s = at .before
 
   abbrev place : ℕ
   place = at .loop .place
 
-  abbrev line : ℕ
-  line = s .generators-at .result
-
   abbrev row : Pauli
-  row = getD (code s .g) place identity
+  row = getD (g s) place identity
 
-  line-fits : line + place < 64
-  line-fits = omega (arith, line-small s, c .loop2 .inv .few)
-
-  here : {t : Bool} → anyOf (anticommutes row) (take place (code s .g)) ≡ t
-      → (refuseIf t (Refusal.GeneratorsAnticommute (line + place) Family.Generator)
-      then Left clash (code s .g) (code s .r) (place + 1) line)
-      ≡ firstFault clash [] line (generators (code s))
+  here : {t : Bool} → anyOf (anticommutes row) (take place (g s)) ≡ t
+      → (refuseIf t (Refusal.GeneratorsAnticommute (firstGeneratorAt + place) Family.Generator)
+      then Left clash (g s) (r s) (place + 1) firstGeneratorAt)
+      ≡ firstFault clash [] firstGeneratorAt (take (r s) (g s))
   unfolding clash
   here e =
-      ap (λ t. refuseIf t (Refusal.GeneratorsAnticommute (line + place) Family.Generator)
-      then Left clash (code s .g) (code s .r) (place + 1) line) (sym e)
-      ∙ sym (fault-at clash (code s .g) (code s .r) place line (omega (arith, ltb-true))
+      ap (λ t. refuseIf t (Refusal.GeneratorsAnticommute (firstGeneratorAt + place) Family.Generator)
+      then Left clash (g s) (r s) (place + 1) firstGeneratorAt) (sym e)
+      ∙ sym (fault-at clash (g s) (r s) place firstGeneratorAt (omega (arith, ltb-true))
       (omega (arith, room s, c .loop2 .inv .few)))
       ∙ at .loop .inv
 
@@ -96,25 +82,23 @@ turn c = c .before .before
 
 tested : (c : tie.After-commutes Inv-loop2 μ-loop2 Inv-loop μ-loop)
     → let loop = turn c .before in
-    anticommutes (row loop) (getD (code (s loop) .g) (loop .loop2 .earlier) identity) ≡ not (c .commutes .result)
+    anticommutes (row loop) (getD (g (s loop)) (loop .loop2 .earlier) identity) ≡ not (c .commutes .result)
 unfolding anticommutes
 tested c = sym (ap not (c .commutes .ensures))
 
 -- ---- behind the last row
 
 ended : (c : tie.At-loop Inv-loop2 μ-loop2 Inv-loop μ-loop)
-    → (code (c .before) .r ≤ c .loop .place) ⊎ (length (code (c .before) .g) ≤ c .loop .place)
-    → none ≡ firstFault clash [] (generatorsAt (code (c .before))) (generators (code (c .before)))
+    → (r (c .before) ≤ c .loop .place) ⊎ (length (g (c .before)) ≤ c .loop .place)
+    → none ≡ firstFault clash [] firstGeneratorAt (take (r (c .before)) (g (c .before)))
 ended c end =
     let s = c .before in
-    by-line s (sym (fault-end clash (code s .g) (code s .r) (c .loop .place) (s .generators-at .result) end)
-    ∙ c .loop .inv)
+    sym (fault-end clash (g s) (r s) (c .loop .place) firstGeneratorAt end) ∙ c .loop .inv
 
 -- ---- the needs
 
 loop-holds : tie.Need-loop-holds Inv-loop2 μ-loop2 Inv-loop μ-loop
-unfolding generators
-loop-holds c = fault-start clash (code c .g) (code c .r) 0 (c .generators-at .result) refl
+loop-holds c = fault-start clash (g c) (r c) 0 firstGeneratorAt refl
 
 loop2-holds : tie.Need-loop2-holds Inv-loop2 μ-loop2 Inv-loop μ-loop
 loop2-holds c = tried-none _ _ _ (omega arith)
@@ -124,8 +108,8 @@ unfolding refuseIf _then_
 returns c =
     let t = turn (c .before) in
     let loop = t .before in
-    by-line (s loop) (here loop (tried-passes (loop .loop2 .inv) (room (s loop)) (t .loop2-test .taken)
-    (tested (c .before) ∙ c .if2 .taken)))
+    here loop
+    (tried-passes (loop .loop2 .inv) (room (s loop)) (t .loop2-test .taken) (tested (c .before) ∙ c .if2 .taken))
 
 loop2-again : tie.Need-loop2-again Inv-loop2 μ-loop2 Inv-loop μ-loop
 loop2-again c =
@@ -151,7 +135,6 @@ generators-commute-spec =
     μ-loop2
     Inv-loop
     μ-loop
-    (λ c κs. search needs)
     loop-holds
     (λ c. search needs)
     (λ c. search needs)
@@ -159,7 +142,7 @@ generators-commute-spec =
     (λ c. search needs)
     (λ c. search needs)
     (λ c κs. search needs)
-    (λ c. record { fits = omega (arith, line-fits (turn (c .before) .before)) })
+    (λ c. record { fits = omega (arith, turn (c .before) .before .loop2 .inv .few) })
     returns
     (λ c. search needs)
     (λ c. search needs)

@@ -15,10 +15,16 @@ use Rattle.elimination.proofs.eliminate.Tie as tie
 within : (c : tie.Else1) → withinLimits (c .before .before .args .code) ≡ true
 within c = passed (c .before .within-limits .ensures) (c .if1 .left)
 
--- 6 finds nothing.
-passes : (c : tie.After-enum-told) → let code = c .before .before .before .before .before .args .code in
+-- What 6 finds among the rows it finds among the record's generators.
+clashes : (c : tie.After-generators-commute) → let code = c .before .before .before .before .args .code in
+    checkedRefusal (c .generators-commute .result) ≡ firstFault clash [] (generatorsAt code) (generators code)
+unfolding generatorsAt generators
+clashes c = c .generators-commute .ensures
+
+-- It finds nothing.
+passes : (c : tie.After-enum-told) → let code = c .before .before .before .before .before .before .args .code in
     none ≡ firstFault clash [] (generatorsAt code) (generators code)
-passes c = ap checkedRefusal (sym (c .enum-told .given .1)) ∙ c .before .before .generators-commute .ensures
+passes c = ap checkedRefusal (sym (c .enum-told .given .1)) ∙ clashes (c .before .before)
 
 returns : tie.Need-returns
 returns c = c .refused .ensures
@@ -28,14 +34,15 @@ returns-2 : tie.Need-returns-2
 returns-2 c =
     let told = c .before in
     let check = told .before .before in
-    clashing _ (within (check .before)) (told .enum-told2 .given .1) (c .empty .ensures)
-    (check .generators-commute .ensures)
+    clashing _ (within (check .before .before)) (told .enum-told2 .given .1) (c .empty .ensures) (clashes check)
 
 independence-requires : tie.Need-independence-requires
-independence-requires c κs = (within (c .before .before .before), sym (passes c))
+independence-requires c κs = (within (c .before .before .before .before), sym (passes c))
 
 returns-3 : tie.Need-returns-3
-returns-3 c = c .independence .ensures ∙ clash-free _ (within (c .before .before .before .before)) (passes (c .before))
+returns-3 c =
+    c .independence .ensures
+    ∙ clash-free _ (within (c .before .before .before .before .before)) (passes (c .before))
 
 pub eliminate-spec : {M : Type 1} → statement M
 eliminate-spec =

@@ -3,12 +3,12 @@
 use mathlib.Core.Bool.{not}
 use mathlib.Core.Logic.{⊎-elim}
 use mathlib.Core.Path.{_≡_, ap, sym, _∙_}
-use Prim.Native.Nat.{_-_, _*_}
+use Prim.Native.Nat.{_-_, _*_, _<_}
 use native.Mathlib.Omega.{arith}
 use lib.ListN.{getD}
 use Rattle.pauli.specs.Product.{identity, anticommutes}
 use Rattle.code_record.specs.declared.Code.{Code}
-use Rattle.code_record.specs.Record.{generators}
+use Rattle.code_record.specs.Record.{mostQubits, generators}
 use Rattle.code_record.proofs.ArrayLengths.{sized-of}
 use Rattle.commutation.proofs.AnyRow.{Tried, tried-none, tried-all, tried-passes, tried-more}
 use Rattle.logical_pairs.proofs.LogicalPlaces.{Logical, x-at, z-at}
@@ -20,6 +20,7 @@ use Rattle.logical_checks.proofs.first_detected.Tie as tie
 abbrev Inv-loop2 : tie.InvT-loop2
 Inv-loop2 code pairs place p row₀ row =
     Within code pairs
+    × (code .r < mostQubits)
     × Logical code pairs pairs place p
     × Tried (anticommutes p) (code .g) (code .r) row
 
@@ -62,15 +63,17 @@ loop2-holds : tie.Need-loop2-holds Inv-loop2 μ-loop2 Inv-loop μ-loop
 loop2-holds c =
     let loop = c .before .before .loop in
     let inside = c .before .loop-test .taken in
-    let k = loop .inv .0 .known in (
+    let k = loop .inv .0 .known in
+    let few = loop .inv .0 .fewRows (omega (arith, inside)) in (
       loop .inv .0,
+      few,
       record {
         known = k;
         within = inside;
         row = ⊎-elim (λ w. w .2 ∙ x-at k (loop .place) (w .0 .taken))
             (λ w. w .2 ∙ z-at k (loop .place) (w .0 .left) inside) (c .if1 .came);
       },
-      tried-none _ (c .before .before .before .before .args .t1 .g) _ (omega (arith, loop .inv .0 .fewRows)),
+      tried-none _ (c .before .before .before .before .args .t1 .g) _ (omega (arith, few)),
     )
 
 returns : tie.Need-returns Inv-loop2 μ-loop2 Inv-loop μ-loop
@@ -79,8 +82,8 @@ returns c =
     let told = c .before in
     let t = turn told in
     let inv = t .before .loop2 .inv in
-    nine-found (inv .1)
-    (sym (tried-passes (inv .2) (inv .0 .known .sized .roomG) (t .loop2-test .taken) (tested told ∙ c .if2 .taken)))
+    nine-found (inv .2)
+    (sym (tried-passes (inv .3) (inv .0 .known .sized .roomG) (t .loop2-test .taken) (tested told ∙ c .if2 .taken)))
     (at (t .before) .loop .inv .1)
 
 loop2-again : tie.Need-loop2-again Inv-loop2 μ-loop2 Inv-loop μ-loop
@@ -90,7 +93,8 @@ loop2-again c =
     let inv = t .before .loop2 .inv in (
       inv .0,
       inv .1,
-      tried-more (inv .2) (inv .0 .known .sized .roomG) (t .loop2-test .taken) (tested told ∙ c .if2 .left),
+      inv .2,
+      tried-more (inv .3) (inv .0 .known .sized .roomG) (t .loop2-test .taken) (tested told ∙ c .if2 .left),
     )
 
 loop-again : tie.Need-loop-again Inv-loop2 μ-loop2 Inv-loop μ-loop
@@ -99,7 +103,7 @@ loop-again c =
     let tried = c .before in
     let inv = tried .loop2 .inv in (
       inv .0,
-      nine-passed (inv .1) (sym (tried-all (inv .2) (c .loop2-test .left))) (at tried .loop .inv .1),
+      nine-passed (inv .2) (sym (tried-all (inv .3) (c .loop2-test .left))) (at tried .loop .inv .1),
     )
 
 returns-2 : tie.Need-returns-2 Inv-loop2 μ-loop2 Inv-loop μ-loop

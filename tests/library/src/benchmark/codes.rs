@@ -75,7 +75,7 @@ impl Known {
 
     fn correction(&self, syndrome: &[u8]) -> Option<Vec<u8>> {
         let mut letters = vec![0; self.code.n];
-        let answer = plain::decode::<Table>(&self.code, syndrome, &mut letters);
+        let answer = plain::decode::<Table>(self.code, syndrome, &mut letters);
         answer.expect("a syndrome and room").map(|_| letters)
     }
 

@@ -21,8 +21,8 @@ pub fn admission(sheet: &[u8]) -> Times {
 
 pub fn decode(code: &Code, syndrome: &[u8]) -> Times {
     timed_texts::<_, LETTERS_ROOM, 3>([
-        &|out| plain::decode::<Scan>(black_box(code), black_box(syndrome), out),
-        &|out| plain::decode::<Table>(black_box(code), black_box(syndrome), out),
+        &|out| plain::decode::<Scan>(*black_box(code), black_box(syndrome), out),
+        &|out| plain::decode::<Table>(*black_box(code), black_box(syndrome), out),
         &|out| black_box(code).decode(black_box(syndrome), out),
     ])
 }
@@ -31,15 +31,15 @@ pub fn correct(code: &Code, syndrome: &[u8]) -> Times {
     let bits = syndrome.iter().rev();
     let mask = bits.fold(0, |mask, &byte| 2 * mask + u32::from(byte == b'1'));
     timed([
-        &|| plain::correct::<Scan>(black_box(code), black_box(mask)),
-        &|| plain::correct::<Table>(black_box(code), black_box(mask)),
+        &|| plain::correct::<Scan>(*black_box(code), black_box(mask)),
+        &|| plain::correct::<Table>(*black_box(code), black_box(mask)),
         &|| black_box(code).correct(black_box(mask)),
     ])
 }
 
 /// Of plain Rust and of the library.
 pub fn canonical(code: &Code) -> [f64; 2] {
-    timed_texts::<_, CANONICAL_ROOM, 2>([&|out| plain::canonical(black_box(code), out), &|out| {
+    timed_texts::<_, CANONICAL_ROOM, 2>([&|out| plain::canonical(*black_box(code), out), &|out| {
         black_box(code).canonical(out)
     }])
 }

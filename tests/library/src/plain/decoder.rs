@@ -7,15 +7,16 @@ use super::{letters, refusal};
 use reinoften::{Code, Pauli, Refusal};
 
 /// Writes the letters of the correction, and answers how many there are; or none.
+#[inline(never)]
 pub fn decode<W: Walk>(
-    code: &Code,
+    code: Code,
     characters: &[u8],
     out: &mut [u8],
 ) -> Result<Option<usize>, Refusal> {
-    check_limits(code)?;
+    check_limits(&code)?;
     let want = read_syndrome(code.r, characters).ok_or(refusal(16, 0))?;
     let out = out.get_mut(..code.n).ok_or(refusal(17, 0))?;
-    let Some((a, b)) = correction(&walk::<W>(code), want) else {
+    let Some((a, b)) = correction(&walk::<W>(&code), want) else {
         return Ok(None);
     };
     for (byte, letter) in out.iter_mut().zip(letters(code.n, a, b)) {
@@ -25,12 +26,13 @@ pub fn decode<W: Walk>(
 }
 
 /// The correction for a syndrome by value; or none.
-pub fn correct<W: Walk>(code: &Code, syndrome: u32) -> Result<Option<Pauli>, Refusal> {
-    check_limits(code)?;
+#[inline(never)]
+pub fn correct<W: Walk>(code: Code, syndrome: u32) -> Result<Option<Pauli>, Refusal> {
+    check_limits(&code)?;
     if syndrome >> code.r != 0 {
         return Err(refusal(16, 0));
     }
-    Ok(correction(&walk::<W>(code), syndrome).map(|(a, b)| {
+    Ok(correction(&walk::<W>(&code), syndrome).map(|(a, b)| {
         let p = (a & b).count_ones() % 4;
         Pauli { p, a, b }
     }))

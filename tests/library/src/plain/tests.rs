@@ -140,7 +140,7 @@ fn syndromes_are_decoded() {
         };
         for decode in [decode::<Scan>, decode::<Table>] {
             let mut out = vec![b'.'; room];
-            assert_eq!(decode(&code(&record), &characters, &mut out), expected);
+            assert_eq!(decode(code(&record), &characters, &mut out), expected);
             assert_eq!(out, expected_out);
         }
         outcomes[outcome(&expected)] += 1;
@@ -170,7 +170,7 @@ fn syndromes_are_decoded_by_value() {
             Ok(_) => Ok(Decoder::of(&record).correct(mask).map(pauli)),
         };
         for correct in [correct::<Scan>, correct::<Table>] {
-            assert_eq!(correct(&code(&record), mask), expected);
+            assert_eq!(correct(code(&record), mask), expected);
         }
         outcomes[outcome(&expected)] += 1;
     }
@@ -191,7 +191,7 @@ fn canonical_generators_are_written() {
         let [mut out, mut expected_out] = [(); 2].map(|()| vec![b'.'; room]);
         let expected = record.write_canonical(&mut expected_out);
         let expected = expected.map_err(plain_refusal);
-        assert_eq!(canonical(&code(&record), &mut out), expected);
+        assert_eq!(canonical(code(&record), &mut out), expected);
         assert_eq!(out, expected_out);
         numbers[expected.map_or_else(|refusal| refusal.number as usize, |_| 0)] += 1;
     }
