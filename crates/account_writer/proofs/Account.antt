@@ -10,10 +10,9 @@ use lib.Dec.{leb}
 use lib.ListN.{length, take, length-append}
 use Rattle.code_record.specs.declared.Code.{Code}
 use Rattle.refusals.specs.declared.Refusal.{Refusal}
-use Rattle.code_record.specs.Record.{mostQubits, rowRoom, generators, logicalCount, radius}
+use Rattle.code_record.specs.Record.{mostQubits, rowRoom, generators, logicalCount, radius, qubitFault}
 use Rattle.code_record.proofs.Limits.{limits}
 use Rattle.sheet.specs.Text.{written}
-use Rattle.row_writer.specs.Lines.{qubitFault}
 use Rattle.row_writer.proofs.Lines.{qubits-within}
 use Rattle.rows_writer.specs.Rows.{rowsText}
 use Rattle.rows_writer.proofs.Rows.{length-there}

@@ -3,10 +3,9 @@ use mathlib.Core.List.{List, _++_}
 use Prim.Native.Nat.{ℕ}
 use Prim.Native.Char.{code}
 use Rattle.code_record.specs.declared.Code.{Code}
-use Rattle.code_record.specs.Record.{logicalCount, radius}
+use Rattle.code_record.specs.Record.{logicalCount, radius, qubitFault}
 use Rattle.refusals.specs.declared.Written.{Written}
 use Rattle.sheet.specs.Text.{After, written}
-use Rattle.row_writer.specs.Lines.{qubitFault}
 use Rattle.rows_writer.specs.Rows.{rowsText}
 use Rattle.reduced_rows.specs.declared.ReducedRows.{ReducedRows}
 use Rattle.reduced_rows.specs.Rows.{rowsIn}

@@ -6,11 +6,10 @@ use mathlib.Core.Path.{_≡_, refl, ap, ap₂, _∙_}
 use Prim.Native.Nat.{ℕ}
 use Rattle.letters.specs.Lists.{bytes}
 use Rattle.code_record.specs.declared.Code.{Code}
-use Rattle.code_record.specs.Record.{generators}
+use Rattle.code_record.specs.Record.{generators, qubitFault}
 use Rattle.code_record.proofs.Limits.{limits}
 use Rattle.sheet.specs.Text.{written}
 use Rattle.sheet.specs.Writer.{rowLines}
-use Rattle.row_writer.specs.Lines.{qubitFault}
 use Rattle.row_writer.proofs.Lines.{qubits-within}
 use Rattle.rows_writer.specs.Rows.{rowsText, writeRows}
 use Rattle.rows_writer.proofs.Rows.{rows-keyed}

@@ -5,7 +5,7 @@ use mathlib.Core.Option.{Option}
 use mathlib.Core.Path.{_≡_, refl, ap, ap₂, sym, _∙_}
 use Prim.Native.Nat.{ℕ}
 use Rattle.code_record.specs.declared.Code.{Code}
-use Rattle.code_record.specs.Record.{generators, generatorsAt, limitsFault}
+use Rattle.code_record.specs.Record.{generators, generatorsAt, limitsFault, qubitFault}
 use Rattle.refusals.specs.declared.Checked.{Checked}
 use Rattle.refusals.specs.declared.Refusal.{Refusal}
 use Rattle.refusals.specs.Refusals.{checkedRefusal, _then_}
@@ -20,7 +20,6 @@ use Rattle.elimination.proofs.Passed.{fault-told, contains-decides-membership}
 use Rattle.admission.specs.Admission.{faultButDistance, codeFault}
 use Rattle.admission.specs.Distance.{claimedWeightFault, claimedDetectedFault, claimedInGroupFault, distanceFault}
 use Rattle.admission.specs.Logicals.{detectedFault, pairingFault}
-use Rattle.logical_checks.specs.Limits.{qubitFault}
 use Rattle.logical_checks.proofs.Limits.{within-limits-passes}
 use Rattle.claim_checks.specs.Claim.{claimFault}
 use Rattle.claim_checks.proofs.Theorems.{claim-checks-are-of-admission}
@@ -55,9 +54,9 @@ module _ (at : ℕ) (c : Code) {e : Elimination} (known : e ≡ elimination c) w
   module _
       (passed : e .answer ≡ Checked.Passed) (checked : Checked)
       (found : checkedRefusal checked
-      ≡ ((qubitFault c then logicals) then claimFault at c (e .reduced) then distanceBy at c (e .reduced))) where
+      ≡ ((qubitFault (c .n) then logicals) then claimFault at c (e .reduced) then distanceBy at c (e .reduced))) where
     -- A record that passes 6 to 8 is within limits, so the logicals are refused for no other fault than theirs.
-    within : (qubitFault c then logicals) ≡ logicals
+    within : (qubitFault (c .n) then logicals) ≡ logicals
     unfolding _then_ groupFault
     within =
         ap (λ l. l then logicals)

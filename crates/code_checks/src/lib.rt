@@ -9,9 +9,9 @@ use logical_checks::check_logicals;
 use reduced_rows::ReducedRows;
 use refusals::Checked;
 ghost use mathlib.Core.Path.{_≡_};
+ghost use Rattle.code_record.specs.Record.{qubitFault};
 ghost use Rattle.refusals.specs.Refusals.{checkedRefusal, _then_};
 ghost use Rattle.admission.specs.Logicals.{detectedFault, pairingFault};
-ghost use Rattle.logical_checks.specs.Limits.{qubitFault};
 ghost use Rattle.claim_checks.specs.Claim.{claimFault};
 ghost use Rattle.distance.specs.Search.{distanceBy};
 ghost use Rattle.code_checks.specs.Answers.{checkedCode};
@@ -27,12 +27,12 @@ fn claim_and_distance(code: Code, reduced: ReducedRows, at: usize) -> Checked
     check_distance(code, reduced, at)
 }
 
-// 9 and 10, then 11 to 14, with the rows that 6 to 8 gave. The checks of the logicals have 15 before them for
-// records with more qubits than a sheet.
+// 9 and 10, then 11 to 14, with the rows that 6 to 8 gave. The checks of the logicals have 15 before them, where
+// no sheet has so many qubits.
 fn behind_generators(code: Code, reduced: ReducedRows, at: usize) -> Checked
     ensures { λ r.
         ⌜ checkedRefusal r
-        ≡ ((qubitFault code then detectedFault code then pairingFault code)
+        ≡ ((qubitFault (code .n) then detectedFault code then pairingFault code)
         then claimFault at code reduced then distanceBy at code reduced) ⌝ }
 {
     let answer = check_logicals(code);

@@ -143,3 +143,8 @@ withinLimits c =
 -- RULES, "Refusals": 15, where a record is outside its limits.
 unfoldable pub limitsFault : Code → Option Refusal
 limitsFault c = refuseIf (not (withinLimits c)) Refusal.RecordLimits
+
+-- RULES, "Calls and buffers": 15, where n is not 2 to 24. A call that takes rows of n qubits and no record has no other
+-- limits.
+unfoldable pub qubitFault : ℕ → Option Refusal
+qubitFault n = refuseIf (not (between 2 mostQubits n)) Refusal.RecordLimits

@@ -7,7 +7,8 @@ use Rattle.letters.specs.Lists.{bytes}
 use Rattle.refusals.specs.declared.Refusal.{Refusal}
 use Rattle.refusals.specs.declared.Written.{Written}
 use Rattle.sheet.specs.Text.{After, written}
-use Rattle.row_writer.specs.Lines.{lettersLineText, qubitFault}
+use Rattle.code_record.specs.Record.{qubitFault}
+use Rattle.row_writer.specs.Lines.{lettersLineText}
 use Rattle.corrections.specs.declared.Correction.{Correction}
 
 -- RULES, "The report": a `c=` line has the n letters of the correction, or `none`.

@@ -1,9 +1,9 @@
+use Rattle.code_record.specs.Record.{qubitFault}
 -- The call for the `c=` lines of a report.
 use mathlib.Core.List.{List}
 use Prim.Native.Nat.{ℕ}
 use Rattle.refusals.specs.declared.Written.{Written}
 use Rattle.sheet.specs.Text.{After, written}
-use Rattle.row_writer.specs.Lines.{qubitFault}
 use Rattle.letter_sums.specs.declared.LetterWords.{LetterWords}
 use Rattle.correction_lines.specs.CorrectionLines.{correctionsText}
 

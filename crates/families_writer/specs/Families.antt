@@ -3,10 +3,9 @@ use mathlib.Core.List.{List, _++_}
 use Prim.Native.Nat.{ℕ, _+_, _*_, min}
 use Rattle.code_record.specs.declared.Code.{Code}
 use Rattle.refusals.specs.declared.Written.{Written}
-use Rattle.code_record.specs.Record.{rowRoom, pairCount, generators, logicalXs, logicalZs}
+use Rattle.code_record.specs.Record.{rowRoom, pairCount, generators, logicalXs, logicalZs, qubitFault}
 use Rattle.sheet.specs.Text.{After, written}
 use Rattle.sheet.specs.Writer.{rowLines}
-use Rattle.row_writer.specs.Lines.{qubitFault}
 
 -- RULES, "The sheet": the lines of the generators, of the X logicals and of the Z logicals.
 unfoldable pub familiesText : Code → List ℕ

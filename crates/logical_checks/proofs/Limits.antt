@@ -1,33 +1,34 @@
--- 15 comes before the other checks: it answers where there are more qubits than a sheet has, and they do where there
--- are not.
+-- 15 comes before the other checks: it answers where no sheet has so many qubits, and they do where one has.
 use mathlib.Core.Bool.{Bool, true, false, not}
+use mathlib.Core.Logic.{_⊎_}
 use mathlib.Core.Option.{Option, none, some, Option·some-ne-none}
 use mathlib.Core.Path.{_≡_, refl, ap, sym}
-use Prim.Native.Nat.{_<_, _≤_}
-use native.Mathlib.Omega.{arith}
-use borrow.Author.Tests.{lt-ltb, le-ltb}
+use Prim.Native.Nat.{ℕ, _<_, _≤_}
 use Rattle.refusals.specs.declared.Refusal.{Refusal}
 use Rattle.refusals.specs.Refusals.{refuseIf, _then_}
-use Rattle.code_record.specs.declared.Code.{Code}
-use Rattle.code_record.specs.Record.{mostQubits, withinLimits, limitsFault}
-use Rattle.code_record.proofs.Limits.{limits}
-use Rattle.logical_checks.specs.Limits.{qubitFault}
+use Rattle.code_record.specs.Record.{mostQubits, withinLimits, limitsFault, qubitFault}
+use Rattle.code_record.proofs.Limits.{bounds-between, outside-between, limits}
 use Rattle.logical_checks.specs.Statements.{WithinLimitsPasses}
 
-module _ (c : Code) (later : Option Refusal) where
-  pub many-first : mostQubits < c .n → some Refusal.RecordLimits ≡ (qubitFault c then later)
-  unfolding qubitFault refuseIf _then_
-  many-first many = ap (λ t. refuseIf t Refusal.RecordLimits then later) (sym (lt-ltb mostQubits (c .n) many))
+module _ (n : ℕ) where
+  few-qubits : 2 ≤ n → n ≤ mostQubits → qubitFault n ≡ none
+  unfolding qubitFault refuseIf
+  few-qubits two few = ap (λ t. refuseIf (not t) Refusal.RecordLimits) (bounds-between 2 mostQubits n two few)
 
-  pub few-later : c .n ≤ mostQubits → later ≡ (qubitFault c then later)
-  unfolding qubitFault refuseIf _then_
-  few-later few = ap (λ t. refuseIf t Refusal.RecordLimits then later) (sym (le-ltb mostQubits (c .n) few))
+  module _ (later : Option Refusal) where
+    pub outside-first : (n < 2) ⊎ (mostQubits < n) → some Refusal.RecordLimits ≡ (qubitFault n then later)
+    unfolding qubitFault refuseIf _then_
+    outside-first outside =
+        ap (λ t. refuseIf (not t) Refusal.RecordLimits then later) (sym (outside-between 2 mostQubits n outside))
+
+    pub within-later : 2 ≤ n → n ≤ mostQubits → later ≡ (qubitFault n then later)
+    unfolding _then_
+    within-later two few = ap (λ fault. fault then later) (sym (few-qubits two few))
 
 pub within-limits-passes : WithinLimitsPasses
-unfolding qubitFault limitsFault refuseIf
+unfolding limitsFault refuseIf
 within-limits-passes c passed = go (withinLimits c) refl passed
   where
-    go : (t : Bool) → withinLimits c ≡ t → refuseIf (not t) Refusal.RecordLimits ≡ none → qubitFault c ≡ none
-    go true e passed =
-        ap (λ t. refuseIf t Refusal.RecordLimits) (le-ltb mostQubits (c .n) (omega (arith, limits c e .qubits)))
+    go : (t : Bool) → withinLimits c ≡ t → refuseIf (not t) Refusal.RecordLimits ≡ none → qubitFault (c .n) ≡ none
+    go true e passed = let qubits = limits c e .qubits in few-qubits (c .n) (qubits .0) (qubits .1)
     go false e passed = absurd (Option·some-ne-none _ passed)

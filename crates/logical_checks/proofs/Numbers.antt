@@ -5,7 +5,7 @@ use Rattle.letters.specs.Lists.{anyOf}
 use Rattle.sheet.proofs.Numbers.{law-of-refusal, refuseIf-lawful, then-lawful}
 use Rattle.stabilizer.proofs.Theorems.{first-lawful}
 use Rattle.admission.specs.Logicals.{detected, mispaired, detectedFault, pairingFault}
-use Rattle.logical_checks.specs.Limits.{qubitFault}
+use Rattle.code_record.specs.Record.{qubitFault}
 use Rattle.logical_checks.specs.Statements.{LogicalRefusalNumbers}
 
 pub logical-refusal-numbers : LogicalRefusalNumbers

@@ -5,17 +5,16 @@ use mathlib.Core.Path.{_≡_}
 use Rattle.refusals.specs.declared.Refusal.{Refusal}
 use Rattle.refusals.specs.Refusals.{_then_}
 use Rattle.code_record.specs.declared.Code.{Code}
-use Rattle.code_record.specs.Record.{limitsFault}
+use Rattle.code_record.specs.Record.{limitsFault, qubitFault}
 use Rattle.sheet.specs.Statements.{Among}
 use Rattle.admission.specs.Logicals.{detectedFault, pairingFault}
-use Rattle.logical_checks.specs.Limits.{qubitFault}
 
 -- RULES, "Refusals": the numbers with which the call refuses.
 abbrev pub LogicalRefusalNumbers : Type 0
 LogicalRefusalNumbers =
-    (c : Code) (refusal : Refusal) → (qubitFault c then detectedFault c then pairingFault c) ≡ some refusal
+    (c : Code) (refusal : Refusal) → (qubitFault (c .n) then detectedFault c then pairingFault c) ≡ some refusal
     → Among (9 ∷ 10 ∷ 15 ∷ []) refusal
 
 -- A record within limits passes the first of these checks.
 abbrev pub WithinLimitsPasses : Type 0
-WithinLimitsPasses = (c : Code) → limitsFault c ≡ none → qubitFault c ≡ none
+WithinLimitsPasses = (c : Code) → limitsFault c ≡ none → qubitFault (c .n) ≡ none

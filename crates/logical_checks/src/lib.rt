@@ -9,12 +9,11 @@ use refusals::Family;
 use refusals::Refusal;
 ghost use mathlib.Core.Path.{_≡_};
 ghost use Prim.Native.Nat.{_≤_};
-ghost use Rattle.code_record.specs.Record.{mostQubits};
+ghost use Rattle.code_record.specs.Record.{mostQubits, qubitFault};
 ghost use Rattle.refusals.specs.Refusals.{checkedRefusal, _then_};
 ghost use Rattle.refusals.specs.declared.Refusal.the-variants.{LogicalAnticommutes};
 ghost use Rattle.admission.specs.Logicals.{familyAt, detectedFault, pairingFault};
 ghost use Rattle.logical_pairs.specs.FaultAt.{faultAt};
-ghost use Rattle.logical_checks.specs.Limits.{qubitFault};
 
 // The family of the logical at a place, which counts from 0: the x rows come first.
 fn family_at(pairs: usize, place: usize) -> Family
@@ -51,11 +50,14 @@ fn first_detected(code: Code) -> usize
     place
 }
 
-// The checks of the logicals: 15 where the record has more qubits than a sheet, so that every line is a usize; then 9
-// over all logicals, then 10. The other limits are not asked for.
+// The checks of the logicals: 15 where no sheet has so many qubits, since their lines are counted; then 9 over all
+// logicals, then 10. The other limits are not asked for.
 pub fn check_logicals(code: Code) -> Checked
-    ensures { λ r. ⌜ checkedRefusal r ≡ (qubitFault code then detectedFault code then pairingFault code) ⌝ }
+    ensures { λ r. ⌜ checkedRefusal r ≡ (qubitFault (code .n) then detectedFault code then pairingFault code) ⌝ }
 {
+    if code.n < 2 {
+        return Checked::Refused(Refusal::RecordLimits);
+    }
     if MOST_QUBITS < code.n {
         return Checked::Refused(Refusal::RecordLimits);
     }

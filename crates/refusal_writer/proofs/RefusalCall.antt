@@ -1,3 +1,4 @@
+use Rattle.code_record.specs.Record.{qubitFault}
 -- What is stated of the lines of a refusal: the call is `written` with its checks, so the laws of every such call hold
 -- of it.
 use mathlib.Core.List.{[], _∷_}
@@ -10,7 +11,6 @@ use Rattle.sheet.specs.Statements.{Among}
 use Rattle.sheet.specs.Text.{written}
 use Rattle.sheet.proofs.Numbers.{IfRefused, law-of-refusal, refuseIf-lawful, written-lawful}
 use Rattle.sheet.proofs.Untouched.{written-leaves}
-use Rattle.row_writer.specs.Lines.{qubitFault}
 use Rattle.reporting.specs.Report.{refusalText}
 use Rattle.refusal_writer.specs.RefusalLines.{errorsFault, pairFault, writeRefusal}
 use Rattle.refusal_writer.specs.Statements.{RefusalIsWritten, RefusalRefusalsLeave, RefusalRefusalNumbers}

@@ -1,3 +1,4 @@
+use Rattle.code_record.specs.Record.{qubitFault}
 -- The call for the lines of a refusal.
 use mathlib.Core.List.{List}
 use mathlib.Core.Option.{Option, none, some}
@@ -7,7 +8,6 @@ use Rattle.refusals.specs.declared.Refusal.{Refusal}
 use Rattle.refusals.specs.declared.Written.{Written}
 use Rattle.refusals.specs.Refusals.{values}
 use Rattle.sheet.specs.Text.{After, written}
-use Rattle.row_writer.specs.Lines.{qubitFault}
 use Rattle.reporting.specs.Report.{refusalText}
 
 -- RULES, "Calls and buffers": 15, where two errors are not on 2 to 24 qubits.

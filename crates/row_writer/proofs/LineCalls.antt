@@ -4,7 +4,8 @@ use mathlib.Core.Path.{refl}
 use Rattle.letters.specs.Lists.{anyOf}
 use Rattle.sheet.proofs.Numbers.{law-of-refusal, refuseIf-lawful, written-lawful}
 use Rattle.sheet.proofs.Untouched.{written-leaves}
-use Rattle.row_writer.specs.Lines.{qubitFault, writeRow, writeLetters}
+use Rattle.code_record.specs.Record.{qubitFault}
+use Rattle.row_writer.specs.Lines.{writeRow, writeLetters}
 use Rattle.row_writer.specs.Statements.{LinesAreOfTheirKey, LineRefusalsLeave, LineRefusalNumbers}
 use Rattle.row_writer.proofs.Lines.{row-keyed, letters-keyed}
 

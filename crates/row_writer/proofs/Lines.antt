@@ -15,7 +15,7 @@ use Rattle.letters.specs.Letters.{signByte}
 use Rattle.letters.specs.Lists.{bytes}
 use Rattle.refusals.specs.declared.Refusal.{Refusal}
 use Rattle.refusals.specs.declared.Written.{Written}
-use Rattle.code_record.specs.Record.{mostQubits, between}
+use Rattle.code_record.specs.Record.{mostQubits, between, qubitFault}
 use Rattle.code_record.proofs.Limits.{bounds-between}
 use Rattle.sheet.specs.Text.{laid, line, lineFeed}
 use Rattle.sheet.proofs.Laid.{sets-laid, set-laid, lent, back, back-laid}
@@ -23,7 +23,7 @@ use Rattle.sheet.proofs.Lengths.{length-letterText, length-rowText}
 use Rattle.sheet.proofs.WrittenText.{refuseIf-true, refuseIf-false, written-whole, Answers}
 use Rattle.sheet.proofs.WrittenText.{answers-fault, answers-short, answers-whole}
 use Rattle.letters_writer.proofs.Filled.{front-filled}
-use Rattle.row_writer.specs.Lines.{lettersEnd, rowLineText, writeRow, lettersLineText, writeLetters, qubitFault}
+use Rattle.row_writer.specs.Lines.{lettersEnd, rowLineText, writeRow, lettersLineText, writeLetters}
 
 -- ---- letters
 

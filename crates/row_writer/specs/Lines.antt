@@ -1,15 +1,11 @@
 -- The lines of one row, with its sign and without, and the calls for one by itself.
-use mathlib.Core.Bool.{not}
 use mathlib.Core.List.{List, [], _∷_, _++_}
-use mathlib.Core.Option.{Option}
 use Prim.Native.Nat.{ℕ}
 use Prim.Native.Char.{code}
 use Rattle.pauli.specs.declared.Pauli.{Pauli}
 use Rattle.pauli.specs.Letters.{letterText, rowText}
-use Rattle.refusals.specs.declared.Refusal.{Refusal}
 use Rattle.refusals.specs.declared.Written.{Written}
-use Rattle.code_record.specs.Record.{mostQubits, between}
-use Rattle.refusals.specs.Refusals.{refuseIf}
+use Rattle.code_record.specs.Record.{qubitFault}
 use Rattle.sheet.specs.Text.{lineFeed, After, written}
 
 -- The letters of a row and the line feed, with which both lines end.
@@ -23,10 +19,6 @@ rowLineText key n P = key ∷ code "=" ∷ rowText n P ++ lineFeed ∷ []
 -- RULES, "The sheet": the line of a row without its sign, as w has it.
 unfoldable pub lettersLineText : ℕ → ℕ → Pauli → List ℕ
 lettersLineText key n P = key ∷ code "=" ∷ lettersEnd n P
-
--- RULES, "Calls and buffers": 15, where n is not 2 to 24.
-unfoldable pub qubitFault : ℕ → Option Refusal
-qubitFault n = refuseIf (not (between 2 mostQubits n)) Refusal.RecordLimits
 
 -- RULES, "Calls and buffers": the line of a row by itself, with any key: 15 where n is not 2 to 24, then 17, then the
 -- line and its length. Of any Pauli it shows what `rowText` does.

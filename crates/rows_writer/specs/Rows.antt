@@ -4,7 +4,8 @@ use Prim.Native.Nat.{ℕ}
 use Rattle.pauli.specs.declared.Pauli.{Pauli}
 use Rattle.refusals.specs.declared.Written.{Written}
 use Rattle.sheet.specs.Text.{After, written}
-use Rattle.row_writer.specs.Lines.{rowLineText, qubitFault}
+use Rattle.code_record.specs.Record.{qubitFault}
+use Rattle.row_writer.specs.Lines.{rowLineText}
 
 -- RULES, "The sheet": the lines of rows, by the byte before their `=`.
 unfoldable pub rowsText : ℕ → ℕ → List Pauli → List ℕ

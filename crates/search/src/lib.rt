@@ -12,7 +12,7 @@ ghost use mathlib.Core.List.{List};
 ghost use mathlib.Core.Option.{none};
 ghost use mathlib.Core.Path.{_≡_};
 ghost use Prim.Native.Nat.{ℕ, _+_, _*_, _^_, min, _≤_, _<_};
-ghost use lib.ListN.{length};
+ghost use lib.ListN.{length, take};
 ghost use Rattle.letters.specs.Letters.{struckLetter};
 ghost use Rattle.word_filter.specs.Filter.{NoneBefore};
 ghost use Rattle.letter_sums.specs.Sums.{placedAt, foundAs, earliestOf, earliestUpTo, wordsIn, earliestBy};
@@ -58,7 +58,7 @@ fn completion(
     requires { ⌜ qubits ≤ 32 ⌝ }
     requires { ⌜ 3 * qubits ≤ length (now first) ⌝ }
     requires { ⌜ 3 * qubits ≤ length (now second) ⌝ }
-    requires { ⌜ NoneBefore (now places) (now first) ⌝ }
+    requires { ⌜ NoneBefore (now places) (take (3 * qubits) (now first)) ⌝ }
     ensures { λ r. ⌜ r ≡ foundAs (earliestOf (now (first .entry)) (now (second .entry)) qubits weight want shun) ⌝ }
 {
     if weight == 0 {
@@ -112,7 +112,7 @@ fn lightest(
     requires { ⌜ qubits ≤ 32 ⌝ }
     requires { ⌜ 3 * qubits ≤ length (now first) ⌝ }
     requires { ⌜ 3 * qubits ≤ length (now second) ⌝ }
-    requires { ⌜ NoneBefore (now places) (now first) ⌝ }
+    requires { ⌜ NoneBefore (now places) (take (3 * qubits) (now first)) ⌝ }
     requires { ⌜ ((v : ℕ) → v < least → earliestOf (now first) (now second) qubits v want shun ≡ none) ⌝ }
     ensures { λ r. ⌜ r ≡ foundAs (earliestUpTo (now (first .entry)) (now (second .entry)) qubits t want shun) ⌝ }
 {
@@ -142,7 +142,7 @@ fn heavier(
     ensures { λ r. ⌜ r ≡ foundAs (earliestUpTo (now (first .entry)) (now (second .entry)) qubits t want shun) ⌝ }
 {
     let mut places = [0u8; SLOTS];
-    first_places(*first, &mut places);
+    first_places(*first, 3 * qubits, &mut places);
     lightest(&places, first, second, qubits, 2, t, want, shun)
 }
 

@@ -9,8 +9,8 @@ use native.Mathlib.Numerals.{unary-clauses}
 use native.Mathlib.Omega.{arith}
 use borrow.Author.Tests.{ltb-false, eqb-false}
 use lib.Dec.{ltb}
-use lib.ListN.{length, drop, getD, set, length-set, length-replicate, drop-of-length-le}
-use lib.Seq.{drop-cons, getD-set-same, getD-set-other}
+use lib.ListN.{length, take, drop, getD, set, length-take, length-set, length-replicate, drop-of-length-le}
+use lib.Seq.{drop-cons, getD-take, getD-set-same, getD-set-other}
 use Rattle.letter_sums.specs.Sums.{earliestOf}
 use Rattle.letter_sums.proofs.Words.{identity-unwanted, none-single}
 use Rattle.word_filter.specs.Filter.{slotOf, noPlaces, placesFrom, firstPlaces, NoneBefore, mayEnd}
@@ -75,14 +75,25 @@ pub none-told : (words : List ℕ) → NoneBefore [] words
 unfolding NoneBefore
 none-told words j inside = omega arith
 
--- So a word whose slot has no place before an end is not before it.
-not-before : (places words : List ℕ) (end want : ℕ) → NoneBefore places words
-    → ltb (getD places (slotOf want) 0) end ≡ false
-    → (j : ℕ) → j < end → j < length words → getD words j 0 ≡ want → ⊥
+-- What is told of the first words is told of fewer of them.
+pub fewer-told : (places words : List ℕ) (m k : ℕ) → k ≤ m → NoneBefore places (take m words)
+    → NoneBefore places (take k words)
 unfolding NoneBefore
-not-before places words end want told e j before inside found =
+fewer-told places words m k few told j inside =
+    let short = length-take k words in
+    let same : getD (take m words) j 0 ≡ getD (take k words) j 0 =
+    getD-take m words j 0 (omega (arith, short)) ∙ sym (getD-take k words j 0 (omega (arith, short))) in
+    subst (λ (w : ℕ). getD places (slotOf w) 0 ≤ j) same (told j (omega (arith, short, length-take m words)))
+
+-- So a word whose slot has no place before an end is not before it.
+not-before : (places words : List ℕ) (m end want : ℕ) → NoneBefore places (take m words)
+    → ltb (getD places (slotOf want) 0) end ≡ false
+    → (j : ℕ) → j < end → j < m → j < length words → getD words j 0 ≡ want → ⊥
+unfolding NoneBefore
+not-before places words m end want told e j before counted inside found =
     let early : getD places (slotOf want) 0 ≤ j =
-    subst (λ (w : ℕ). getD places (slotOf w) 0 ≤ j) found (told j inside) in
+    subst (λ (w : ℕ). getD places (slotOf w) 0 ≤ j) (getD-take m words j 0 counted ∙ found)
+    (told j (omega (arith, length-take m words))) in
     omega (arith, ltb-false (getD places (slotOf want) 0) end e)
 
 -- ---- strings
@@ -105,12 +116,12 @@ many-may-end places (suc (suc letters)) end want some more = refl
 
 -- A string on the last n qubits is not found where it is ruled out.
 pub none-ended : (places words second : List ℕ) (n letters end want shun : ℕ)
-    → NoneBefore places words → 3 * n ≤ length words → 3 * n ≤ end
+    → NoneBefore places (take (3 * n) words) → 3 * n ≤ length words → 3 * n ≤ end
     → mayEnd places letters end want ≡ false → earliestOf words second n letters want shun ≡ none
 unfolding mayEnd
 none-ended places words second n zero end want shun told room behind e =
     identity-unwanted words second n want shun (eqb-false want 0 e)
 none-ended places words second n (suc zero) end want shun told room behind e =
     none-single words second n want shun λ j l.
-    not-before places words end want told e j (omega arith) (omega arith)
+    not-before places words (3 * n) end want told e j (omega arith) l (omega arith)
 none-ended places words second n (suc (suc letters)) end want shun told room behind e = absurd (true≢false e)

@@ -2,6 +2,9 @@
 // is looked for.
 use letter_sums::WORD_ROOM;
 ghost use mathlib.Core.Path.{_≡_};
+ghost use Prim.Native.Nat.{_*_, min};
+ghost use lib.ListN.{take};
+ghost use Rattle.letter_sums.specs.Sums.{qubitRoom};
 ghost use Rattle.word_filter.specs.Filter.{slotOf, firstPlaces, mayEnd};
 
 // How many slots a table has, and what stands at a slot that no word has. It is behind every place.
@@ -16,12 +19,23 @@ fn slot(word: u32) -> usize
     ((word ^ (word / 4096)) % 4096) as usize
 }
 
-// The first place of a word for each slot. The places are stored from the last one down, so that the first one stays.
-pub fn first_places(words: [u32; WORD_ROOM], places: &mut [u8; SLOTS])
-    ensures { λ _. ⌜ now (places .exit) ≡ firstPlaces words ⌝ }
+// How many of `count` words stand in an array: all its places where there are more.
+fn word_count(count: usize) -> usize
+    ensures { λ r. ⌜ r ≡ min count (3 * qubitRoom) ⌝ }
+{
+    if count < WORD_ROOM {
+        return count;
+    }
+    WORD_ROOM
+}
+
+// The first place for each slot of a word among the first `count`, or among all where there are fewer. The places are
+// stored from the last one down, so that the first one stays.
+pub fn first_places(words: [u32; WORD_ROOM], count: usize, places: &mut [u8; SLOTS])
+    ensures { λ _. ⌜ now (places .exit) ≡ firstPlaces (take count words) ⌝ }
 {
     *places = [NO_PLACE; SLOTS];
-    let mut place: usize = WORD_ROOM;
+    let mut place = word_count(count);
     while 0 < place {
         place -= 1;
         let at = slot(words[place]);

@@ -1,10 +1,11 @@
 -- 15 comes first, then 9, and 10 where 9 finds no logical at fault.
+use mathlib.Core.Logic.{inl, inr}
 use mathlib.Core.Option.{Option, some}
 use mathlib.Core.Path.{_≡_, ap, ap₂, _∙_}
 use Prim.Native.Nat.{ℕ, _+_, _*_, _<_, _≤_}
 use native.Mathlib.Omega.{arith}
 use Rattle.code_record.specs.declared.Code.{Code}
-use Rattle.code_record.specs.Record.{mostQubits, generatorsAt, logicalsAt}
+use Rattle.code_record.specs.Record.{mostQubits, generatorsAt, logicalsAt, qubitFault}
 use Rattle.code_record.proofs.ArrayLengths.{sized-of}
 use Rattle.refusals.specs.declared.Family.{Family}
 use Rattle.refusals.specs.declared.Refusal.{Refusal}
@@ -15,9 +16,8 @@ use Rattle.logical_pairs.specs.FaultAt.{faultAt}
 use Rattle.logical_pairs.specs.FirstPlace.{firstUnpaired}
 use Rattle.logical_pairs.proofs.FirstFault.{pairing-fault-is-at-first}
 use Rattle.logical_pairs.proofs.Faults.{fault-inside, fault-behind}
-use Rattle.logical_checks.specs.Limits.{qubitFault}
 use Rattle.logical_checks.proofs.Detected.{Within, within}
-use Rattle.logical_checks.proofs.Limits.{many-first, few-later}
+use Rattle.logical_checks.proofs.Limits.{outside-first, within-later}
 use borrow.Author.Needs.{needs}
 use Rattle.logical_checks.proofs.check_logicals.Statement.{statement}
 use Rattle.logical_checks.proofs.check_logicals.Tie as tie
@@ -26,20 +26,23 @@ use Rattle.logical_checks.proofs.check_logicals.Tie as tie
 
 module _ (c : tie.After-first-detected) where
   abbrev code : Code
-  code = c .before .before .before .before .args .code
+  code = c .before .before .before .before .before .before .args .code
 
   abbrev pairs : ℕ
   pairs = c .before .pair-count .result
 
+  some-qubits : 2 ≤ code .n
+  some-qubits = c .before .before .before .before .if1 .left
+
   limited : code .n ≤ mostQubits
-  limited = c .before .before .if1 .left
+  limited = c .before .before .if2 .left
 
   counted : Within code pairs
   counted =
-      within code (sized-of code (c .before .before .before .before .good .0)) limited (c .before .pair-count .ensures)
+      within code (sized-of code (c .before .before .before .before .before .before .good .0)) limited (c .before .pair-count .ensures)
 
   abbrev whole : Option Refusal
-  whole = qubitFault code then detectedFault code then pairingFault code
+  whole = qubitFault (code .n) then detectedFault code then pairingFault code
 
   -- The line of a logical, by the line of the first generator.
   early : {start place : ℕ} → start ≡ generatorsAt code → place < 2 * pairs → start + code .r + place ≤ 74
@@ -71,60 +74,64 @@ module _ (c : tie.After-first-detected) where
   unfolding _then_
   nine-refuses first inside at =
       ap (λ fault. fault then pairingFault code) (named LogicalAnticommutes first inside at ∙ nine)
-      ∙ few-later code _ limited
+      ∙ within-later (code .n) _ some-qubits limited
 
   nine-passes : 2 * pairs ≤ place → pairingFault code ≡ whole
   unfolding _then_
   nine-passes behind =
       ap (λ fault. fault then pairingFault code) (fault-behind LogicalAnticommutes (counted .known) place behind ∙ nine)
-      ∙ few-later code _ limited
+      ∙ within-later (code .n) _ some-qubits limited
 
 -- ---- the needs
 
 returns : tie.Need-returns
-returns c = many-first (c .before .before .args .code) _ (c .if1 .taken)
+returns c = outside-first (c .before .before .args .code .n) _ (inl (c .if1 .taken))
 
 returns-2 : tie.Need-returns-2
-returns-2 c =
-    let line = c .before .before in
-    nine-refuses (line .before .before) (line .generators-at .ensures) (line .before .if2 .taken)
-    (c .family-at .ensures)
-
-none-detected : (c : tie.Else2) → pairingFault (code (c .before)) ≡ whole (c .before)
-none-detected c = nine-passes (c .before) (c .if2 .left)
+returns-2 c = outside-first (c .before .before .before .before .args .code .n) _ (inr (c .if2 .taken))
 
 returns-3 : tie.Need-returns-3
 returns-3 c =
     let line = c .before .before in
-    let ten = line .before .before in
-    let d = ten .before .before in
-    named d LogicalPairing (line .generators-at2 .ensures) (line .before .if3 .taken) (c .family-at2 .ensures)
-    ∙ ten-told d (ten .first-unpaired .ensures)
-    ∙ none-detected (ten .before)
+    nine-refuses (line .before .before) (line .generators-at .ensures) (line .before .if3 .taken)
+    (c .family-at .ensures)
+
+none-detected : (c : tie.Else3) → pairingFault (code (c .before)) ≡ whole (c .before)
+none-detected c = nine-passes (c .before) (c .if3 .left)
 
 returns-4 : tie.Need-returns-4
 returns-4 c =
+    let line = c .before .before in
+    let ten = line .before .before in
+    let d = ten .before .before in
+    named d LogicalPairing (line .generators-at2 .ensures) (line .before .if4 .taken) (c .family-at2 .ensures)
+    ∙ ten-told d (ten .first-unpaired .ensures)
+    ∙ none-detected (ten .before)
+
+returns-5 : tie.Need-returns-5
+returns-5 c =
     let ten = c .before in
     let d = ten .before .before in
-    fault-behind LogicalPairing (counted d .known) (ten .first-unpaired .result) (c .if3 .left)
+    fault-behind LogicalPairing (counted d .known) (ten .first-unpaired .result) (c .if4 .left)
     ∙ ten-told d (ten .first-unpaired .ensures)
     ∙ none-detected (ten .before)
 
 -- The lines that the refusals name can be added up.
 nine-line : (c : tie.After-generators-at)
     → let d = c .before .before in c .generators-at .result + code d .r + place d ≤ 74
-nine-line c = early (c .before .before) (c .generators-at .ensures) (c .before .if2 .taken)
+nine-line c = early (c .before .before) (c .generators-at .ensures) (c .before .if3 .taken)
 
 ten-line : (c : tie.After-generators-at2)
     → let ten = c .before .before in
     c .generators-at2 .result + code (ten .before .before) .r + ten .first-unpaired .result ≤ 74
-ten-line c = early (c .before .before .before .before) (c .generators-at2 .ensures) (c .before .if3 .taken)
+ten-line c = early (c .before .before .before .before) (c .generators-at2 .ensures) (c .before .if4 .taken)
 
 pub check-logicals-spec : {M : Type 1} → statement M
 check-logicals-spec =
     tie.close
     (tie.spec
     returns
+    returns-2
     (λ c κs. search needs)
     (λ c κs. search needs)
     (λ c. let few = counted c .few in search needs)
@@ -132,12 +139,12 @@ check-logicals-spec =
     (λ c. record { fits = omega (arith, nine-line (c .before)) })
     (λ c. record { fits = omega (arith, nine-line (c .before)) })
     (λ c κs. search needs)
-    returns-2
+    returns-3
     (λ c κs. search needs)
     (λ c. search needs)
     (λ c κs. search needs)
     (λ c. record { fits = omega (arith, ten-line (c .before)) })
     (λ c. record { fits = omega (arith, ten-line (c .before)) })
     (λ c κs. search needs)
-    returns-3
-    returns-4)
+    returns-4
+    returns-5)

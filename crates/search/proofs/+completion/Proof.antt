@@ -18,7 +18,7 @@ use Rattle.letter_sums.proofs.Masks.{placed-found, nothing-found}
 use Rattle.letter_sums.proofs.Words.{NoneBelow, behind, none-short}
 use Rattle.letter_sums.proofs.Words.{none-to-the-right, found-here, found-nowhere, masks-lt}
 use Rattle.word_filter.specs.Filter.{mayEnd}
-use Rattle.word_filter.proofs.Tables.{none-ended}
+use Rattle.word_filter.proofs.Tables.{fewer-told, none-ended}
 use Rattle.search.proofs.completion.Reads as completion
 use Rattle.search.proofs.completion.Kinds as completion-kinds
 use Rattle.search.proofs.+completion.Lts-completion as completion-lts
@@ -102,7 +102,11 @@ pub +completion-spec : {M : Type 1} → statement M
     (λ c κs.
     let turn = c .before .before .before .before .before .before in
     let start = turn .before .before .before .before .before .before .before in
-    (omega arith, (omega arith, (omega arith, (omega arith, start .pre .1 .1 .1 .1)))))
+    let a = start .args in
+    let told =
+    fewer-told (a .places .now) (a .first .now) (3 * a .qubits) (3 * turn .before .loop .right)
+    (omega arith) (start .pre .1 .1 .1 .1) in
+    (omega arith, (omega arith, (omega arith, (omega arith, told)))))
     (λ c. search needs)  -- enum-known-behind
     (λ c. search needs)  -- sub-placed
     (λ c. search needs)  -- sub-placed-2
@@ -135,7 +139,9 @@ pub +completion-spec : {M : Type 1} → statement M
           (λ tried. found-nothing _ (sym (tried .4 .given .1) ∙ tried .2 .ensures))
           (λ passed.
           none-ended (a .places .now) (a .first .now) (a .second .now) (at .loop .right) (a .weight - 1) place _ _
-          (start .pre .1 .1 .1 .1) (omega arith) (omega arith) (sym asked ∙ passed .left))
+          (fewer-told (a .places .now) (a .first .now) (3 * a .qubits) (3 * at .loop .right) (omega arith)
+          (start .pre .1 .1 .1 .1))
+          (omega arith) (omega arith) (sym asked ∙ passed .left))
           (c .if2 .came)),
     ))
     (λ c. search needs)  -- add-right

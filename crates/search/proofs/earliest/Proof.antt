@@ -29,7 +29,7 @@ lightest-requires c κs =
       omega (arith, few),
       (
         omega (arith, few, first-long),
-        (omega (arith, few, second-long), (none-told (a .first .now), λ v h. absurd (omega arith))),
+        (omega (arith, few, second-long), (none-told _, λ v h. absurd (omega arith))),
       ),
     )
 

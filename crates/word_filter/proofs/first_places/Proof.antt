@@ -1,9 +1,10 @@
 -- The table of the words from the place on: one place less is one store more.
 use mathlib.Core.List.{List}
-use mathlib.Core.Path.{_≡_, ap, ap₂, _∙_}
-use Prim.Native.Nat.{ℕ, _-_, _≤_}
+use mathlib.Core.Path.{_≡_, ap, ap₂, sym, _∙_}
+use Prim.Native.Nat.{ℕ, _-_, _≤_, min}
 use native.Mathlib.Omega.{arith}
-use lib.ListN.{length, drop, getD, set}
+use lib.ListN.{length, take, drop, getD, set, length-take}
+use lib.Seq.{getD-take}
 use borrow.Author.Needs.{needs}
 use Rattle.word_filter.specs.Filter.{slotOf, noPlaces, placesFrom, firstPlaces}
 use Rattle.word_filter.proofs.Tables.{none-stored, one-stored}
@@ -11,36 +12,55 @@ use Rattle.word_filter.proofs.first_places.Statement.{statement}
 use Rattle.word_filter.proofs.first_places.Tie as tie
 
 abbrev Inv-loop : tie.InvT-loop
-Inv-loop places₀ words place₀ places place = (place ≤ 96) × (places ≡ placesFrom place (drop place words))
+Inv-loop count places₀ words place₀ places place =
+    (place ≤ 96)
+    × (place ≤ length (take count words))
+    × (places ≡ placesFrom place (drop place (take count words)))
 
 abbrev μ-loop : tie.MeasureT-loop
-μ-loop places₀ words place₀ places place = place
+μ-loop count places₀ words place₀ places place = place
 
-sized : (c : tie.Start Inv-loop μ-loop) → length (c .args .t1) ≡ 96
-sized c = search needs
+-- The words that are counted.
+module _ (c : tie.Start Inv-loop μ-loop) where
+  abbrev words : List ℕ
+  words = take (c .args .count) (c .args .t1)
+
+  counted : length words ≡ min (c .args .count) 96
+  counted =
+      let sized : length (c .args .t1) ≡ 96 = search needs in
+      omega (arith, length-take (c .args .count) (c .args .t1), sized)
 
 loop-holds : tie.Need-loop-holds Inv-loop μ-loop
 unfolding noPlaces
-loop-holds c = (omega arith, none-stored 96 (c .before .args .t1) (omega (arith, sized (c .before))))
+loop-holds c =
+    let start = c .before .before in
+    let all : c .word-count .result ≡ length (words start) = c .word-count .ensures ∙ sym (counted start) in
+    (omega (arith, c .word-count .ensures), omega (arith, all), none-stored _ (words start) (omega (arith, all)))
 
 loop-again : tie.Need-loop-again Inv-loop μ-loop
 loop-again c =
     let turn = c .before in
     let at = turn .before in
-    let words = at .before .before .args .t1 in
+    let start = at .before .before .before in
     let place = at .loop .place in
-    let own : c .slot .result ≡ slotOf (getD words (place - 1) 0) = c .slot .ensures in (
-      omega arith,
-      ap₂ (λ (places : List ℕ) (slot : ℕ). set places slot (place - 1)) (at .loop .inv .1) own
-          ∙ one-stored place words (omega (arith, turn .loop-test .taken)) (omega (arith, sized (at .before .before))),
+    let inside = at .loop .inv .1 in
+    let some = turn .loop-test .taken in
+    let own : c .slot .result ≡ slotOf (getD (words start) (place - 1) 0) =
+    c .slot .ensures
+    ∙ ap slotOf (sym (getD-take (start .args .count) (start .args .t1) (place - 1) 0
+    (omega (arith, some, inside, counted start)))) in (
+      omega (arith, at .loop .inv .0),
+      omega (arith, inside),
+      ap₂ (λ (places : List ℕ) (slot : ℕ). set places slot (place - 1)) (at .loop .inv .2) own
+          ∙ one-stored place (words start) (omega (arith, some)) inside,
     )
 
 returns : tie.Need-returns Inv-loop μ-loop
 unfolding firstPlaces
 returns c =
     let at = c .before in
-    at .loop .inv .1
-    ∙ ap (λ (place : ℕ). placesFrom place (drop place (at .before .before .args .t1)))
+    at .loop .inv .2
+    ∙ ap (λ (place : ℕ). placesFrom place (drop place (words (at .before .before .before))))
     (omega (arith, c .loop-test .left))
 
 pub first-places-spec : {M : Type 1} → statement M
@@ -49,6 +69,7 @@ first-places-spec =
     (tie.spec
     Inv-loop
     μ-loop
+    (λ c κs. search needs)  -- word-count-requires
     loop-holds
     (λ c. search needs)  -- sub-place
     (λ c. search needs)  -- mul-slot
