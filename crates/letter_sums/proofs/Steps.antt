@@ -184,30 +184,3 @@ module _
       (λ e. up-to-more n t σ ∙ rw (up-to-none n t σ w (omega arith) each) (rw e at here))
       (λ l. up-to-more n t σ ∙ rw (up-to-some n t σ w s (omega arith) each here))
       (eq-or-lt-of-le h)
-
-  -- What is found of few weights is found of more.
-  pub up-to-stays : (n m t : ℕ) (σ : S) (s : List Letter) → m ≤ t → firstUpTo n m σ ≡ some s
-      → firstUpTo n t σ ≡ some s
-  unfolding orElse
-  up-to-stays n m zero σ s h found = ap (λ (k : ℕ). firstUpTo n k σ) (omega arith) ∙ found
-  up-to-stays n m (suc t) σ s h found =
-      ⊎-elim
-      (λ e. rw e at found)
-      (λ l. up-to-more n t σ ∙ rw (up-to-stays n m t σ s (omega arith) found))
-      (eq-or-lt-of-le h)
-
-  neither : (o p : Option (List Letter)) → orElse o p ≡ none → (o ≡ none) × (p ≡ none)
-  unfolding orElse
-  neither none p e = (refl, e)
-  neither (some s) p e = absurd (Option·some-ne-none s e)
-
-  -- Where nothing is found of the weights up to t, nothing is found of any of them.
-  pub none-up-to : (n t : ℕ) (σ : S) → firstUpTo n t σ ≡ none → NoneLighter n σ (suc t)
-  none-up-to n zero σ e v h = ap (λ (k : ℕ). first n k σ) (omega arith) ∙ sym (up-to-zero n σ) ∙ e
-  none-up-to n (suc t) σ e v h =
-      let both = neither (firstUpTo n t σ) (first n (suc t) σ) (sym (up-to-more n t σ) ∙ e) in
-      let upTo : v ≤ suc t = omega arith in
-      ⊎-elim
-      (λ same. ap (λ (k : ℕ). first n k σ) same ∙ both .1)
-      (λ less. none-up-to n t σ (both .0) v (omega arith))
-      (eq-or-lt-of-le upTo)

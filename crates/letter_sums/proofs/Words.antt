@@ -4,7 +4,8 @@ use mathlib.Core.Bool.{Bool, true, false, not, _&&_, and-false}
 use mathlib.Core.List.{List, _∷_, _++_}
 use mathlib.Core.Option.{Option, none, some}
 use mathlib.Core.Path.{_≡_, refl, ap, ap₂, sym, subst, _∙_}
-use Prim.Native.Nat.{ℕ, zero, suc, _+_, _*_, _-_, _^_, min, _≤_, _<_}
+use Prim.Native.Nat.{ℕ, zero, suc, _+_, _*_, _-_, _/_, _%_, _^_, min, _≤_, _<_}
+use native.Mathlib.Decide.{ℕ-discrete}
 use native.Mathlib.Numerals.{add-one}
 use native.Mathlib.Omega.{arith}
 use borrow.Author.Tests.{eqb-true, eq-eqb, ne-eqb}
@@ -12,12 +13,13 @@ use lib.Bits.{bitXor, xor-self, xor-comm, xor-zero-r, xor-zero-l}
 use lib.Dec.{eqb}
 use lib.ListN.{getD, replicate, length}
 use Rattle.letters.specs.declared.Letter.{Letter}
-use Rattle.letters.specs.declared.Letter.the-variants.{I, X, Y, Z}
+use Rattle.letters.specs.declared.Letter.the-variants.{I}
 use Rattle.letters.specs.Letters.{struckLetter}
 use Rattle.pauli.proofs.Letters.{xMask-lt, zMask-lt}
 use Rattle.pauli.proofs.Masks.{xor-assoc}
-use Rattle.letter_sums.specs.Sums.{wordAt, sumOf, sumsTo, passes, earliestOf, earliestUpTo}
-use Rattle.letter_sums.proofs.Masks.{Masked}
+use Rattle.letter_sums.specs.declared.Found.{Found}
+use Rattle.letter_sums.specs.Sums.{wordAt, sumOf, sumsTo, passes, earliestOf, earliestUpTo, placedAt, foundAs}
+use Rattle.letter_sums.proofs.Masks.{Masked, found-some, identity-found, nothing-found, placed-found}
 use Rattle.letter_sums.proofs.Steps as steps
 use Rattle.letter_sums.proofs.Steps.{first, firstUpTo}
 
@@ -151,16 +153,6 @@ module _ (words second : List ℕ) where
   unfolding first firstUpTo earliestOf earliestUpTo
   up-to-some n t want shun w s h each here = steps.up-to-some test after moves still n t (want, shun) w s h each here
 
-  pub up-to-stays : (n m t want shun : ℕ) (s : List Letter) → m ≤ t → earliestUpTo words second n m want shun ≡ some s
-      → earliestUpTo words second n t want shun ≡ some s
-  unfolding firstUpTo earliestUpTo
-  up-to-stays n m t want shun s h found = steps.up-to-stays test after moves still n m t (want, shun) s h found
-
-  pub none-up-to : (n t want shun : ℕ) → earliestUpTo words second n t want shun ≡ none
-      → NoneLighter n want shun (suc t)
-  unfolding first firstUpTo earliestOf earliestUpTo
-  none-up-to n t want shun e = steps.none-up-to test after moves still n t (want, shun) e
-
   -- ---- no letters left
 
   -- I has the words 0 and 0: they are the wanted one and not the shunned one, or nothing is found.
@@ -183,11 +175,49 @@ module _ (words second : List ℕ) where
 
   -- ---- one letter left
 
-  -- A letter is found by its word, so nothing is found where no letter has the wanted one.
+  -- A letter is found by its words: the first is the wanted one and the second not the shunned one.
+  abbrev pub PassedOver : ℕ → ℕ → ℕ → Type 0
+  PassedOver want shun j = getD words j 0 ≡ want → getD second j 0 ≡ shun
+
+  none-behind : (n want shun k : ℕ) → PassedOver want shun (3 * n + k) → behind n 0 want shun k ≡ none
+  none-behind n want shun k over = elim (ℕ-discrete (getD words (3 * n + k) 0) want) [
+    | yes own ↦ identity-shunned n _ _ (ap (bitXor shun) (over own) ∙ xor-self shun)
+    | no other ↦ identity-unwanted n _ _ (λ q. other (same-words want _ q))
+  ]
+
+  none-lone : (n want shun : ℕ) → ((j : ℕ) → j < 3 * n → PassedOver want shun j)
+      → earliestOf words second n 1 want shun ≡ none
+  none-lone zero want shun each = none-short 0 1 want shun (omega arith)
+  none-lone (suc n) want shun each =
+      subst (λ (m : ℕ). earliestOf words second m 1 want shun ≡ none) (add-one n)
+      (none-to-the-right n 1 want shun (omega arith) (none-lone n want shun (λ j l. each j (omega arith)))
+      (λ k l. none-behind n want shun k (each (3 * n + k) (omega arith))))
+
+  -- So nothing is found where no letter has the wanted word.
   pub none-single : (n want shun : ℕ) → ((j : ℕ) → j < 3 * n → getD words j 0 ≡ want → ⊥)
       → earliestOf words second n 1 want shun ≡ none
-  none-single zero want shun each = none-short 0 1 want shun (omega arith)
-  none-single (suc n) want shun each =
-      subst (λ (m : ℕ). earliestOf words second m 1 want shun ≡ none) (add-one n)
-      (none-to-the-right n 1 want shun (omega arith) (none-single n want shun (λ j l. each j (omega arith)))
-      (λ k l. identity-unwanted n _ _ (λ q. each (3 * n + k) (omega arith) (same-words want _ q))))
+  none-single n want shun each = none-lone n want shun (λ j l own. absurd (each j l own))
+
+  pub lone-nowhere : (n want shun place : ℕ) → 3 * n ≤ place → ((j : ℕ) → j < place → PassedOver want shun j)
+      → Found.Nothing ≡ foundAs (earliestOf words second n 1 want shun)
+  lone-nowhere n want shun place end each =
+      nothing-found _ (none-lone n want shun (λ j l. each j (omega arith)))
+
+  pub lone-here : (n want shun place : ℕ) → place < 3 * n → ((j : ℕ) → j < place → PassedOver want shun j)
+      → getD words place 0 ≡ want → (getD second place 0 ≡ shun → ⊥)
+      → placedAt (n - place / 3 - 1) (struckLetter (place % 3)) 0 0
+      ≡ foundAs (earliestOf words second n 1 want shun)
+  lone-here n want shun place inside each own unshunned =
+      let right = place / 3 in
+      let k = place % 3 in
+      let at : 3 * right + k ≡ place = omega arith in
+      let rest = found-some 0 0 (some (replicate right I)) (identity-found right (some (replicate right I)) refl) in
+      placed-found (n - right - 1) 0 0 (struckLetter k) (rest .string) _ (rest .isA) (rest .isB)
+      (found-here n 1 want shun right k (rest .string) (omega arith) (omega arith) (omega arith)
+      (none-lone right want shun (λ j l. each j (omega arith)))
+      (λ j l. none-behind right want shun j (each (3 * right + j) (omega arith)))
+      (identity-fits right _ _
+      (ap (λ (i : ℕ). bitXor want (getD words i 0)) at ∙ ap (bitXor want) own ∙ xor-self want)
+      (λ e.
+      unshunned (same-words shun (getD second place 0) (ap (λ (i : ℕ). bitXor shun (getD second i 0)) (sym at) ∙ e)))
+      ∙ rest .told))

@@ -97,14 +97,13 @@ fn smaller(m: usize, n: usize) -> usize
     if m < n { m } else { n }
 }
 
-// The earliest string of weight at most t, where there is none lighter than `least`. No string is heavier than it has
+// The earliest string of weight at most t, where none of one letter or none is found. No string is heavier than it has
 // letters.
 fn lightest(
     places: &[u8],
     first: &[u32],
     second: &[u64],
     qubits: usize,
-    least: usize,
     t: usize,
     want: u32,
     shun: u64,
@@ -113,12 +112,12 @@ fn lightest(
     requires { ⌜ 3 * qubits ≤ length (now first) ⌝ }
     requires { ⌜ 3 * qubits ≤ length (now second) ⌝ }
     requires { ⌜ NoneBefore (now places) (take (3 * qubits) (now first)) ⌝ }
-    requires { ⌜ ((v : ℕ) → v < least → earliestOf (now first) (now second) qubits v want shun ≡ none) ⌝ }
+    requires { ⌜ ((v : ℕ) → v < 2 → earliestOf (now first) (now second) qubits v want shun ≡ none) ⌝ }
     ensures { λ r. ⌜ r ≡ foundAs (earliestUpTo (now (first .entry)) (now (second .entry)) qubits t want shun) ⌝ }
 {
     let most = smaller(t, qubits);
     'search: loop {
-        for weight in least..most + 1 {
+        for weight in 2..most + 1 {
             let found = completion(places, first, second, qubits, weight, want, shun);
             if let Found::At { .. } = found {
                 break 'search found;
@@ -128,7 +127,7 @@ fn lightest(
     }
 }
 
-// The same with the table, where no string of one letter or none is found. Heavier ones are looked for by the table.
+// The same, with the table by which two letters and more are looked for.
 fn heavier(
     first: &[u32; WORD_ROOM],
     second: &[u64; WORD_ROOM],
@@ -143,11 +142,30 @@ fn heavier(
 {
     let mut places = [0u8; SLOTS];
     first_places(*first, 3 * qubits, &mut places);
-    lightest(&places, first, second, qubits, 2, t, want, shun)
+    lightest(&places, first, second, qubits, t, want, shun)
 }
 
-// The earliest string of weight at most t on the qubits that have words. The table is asked for weights from 2 on, and
-// is made where nothing lighter is found.
+// The earliest string of one letter: the words are tried in the order of the strings.
+fn lone(first: &[u32], second: &[u64], qubits: usize, want: u32, shun: u64) -> Found
+    requires { ⌜ qubits ≤ 32 ⌝ }
+    requires { ⌜ 3 * qubits ≤ length (now first) ⌝ }
+    requires { ⌜ 3 * qubits ≤ length (now second) ⌝ }
+    ensures { λ r. ⌜ r ≡ foundAs (earliestOf (now (first .entry)) (now (second .entry)) qubits 1 want shun) ⌝ }
+{
+    'search: loop {
+        for place in 0..3 * qubits {
+            if first[place] == want {
+                if second[place] != shun {
+                    break 'search placed(qubits - place / 3 - 1, place % 3, place / 3, 0, 0);
+                }
+            }
+        }
+        break Found::Nothing;
+    }
+}
+
+// The earliest string of weight at most t on the qubits that have words. One letter or none is looked for without the
+// table, which is made where more are needed.
 pub fn earliest<'a>(
     first: &'a [u32; WORD_ROOM],
     second: &'a [u64; WORD_ROOM],
@@ -159,8 +177,14 @@ pub fn earliest<'a>(
     ensures { λ r. ⌜ r ≡ earliestBy (wordsIn qubits (now (first .entry)) (now (second .entry))) t want shun ⌝ }
 {
     let n = smaller(qubits, QUBIT_ROOM);
-    let none = [0u8; 0];
-    let light = lightest(&none, first, second, n, 0, smaller(t, 1), want, shun);
+    let none = identity(want, shun);
+    if let Found::At { .. } = none {
+        return none;
+    }
+    if t < 1 {
+        return none;
+    }
+    let light = lone(first, second, n, want, shun);
     if let Found::At { .. } = light {
         return light;
     }

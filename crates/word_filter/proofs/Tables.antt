@@ -70,11 +70,6 @@ pub all-told : (words : List ℕ) → NoneBefore (firstPlaces words) words
 unfolding firstPlaces NoneBefore
 all-told words j inside = omega (arith, at-most 0 words j inside)
 
--- Without slots nothing is told.
-pub none-told : (words : List ℕ) → NoneBefore [] words
-unfolding NoneBefore
-none-told words j inside = omega arith
-
 -- What is told of the first words is told of fewer of them.
 pub fewer-told : (places words : List ℕ) (m k : ℕ) → k ≤ m → NoneBefore places (take m words)
     → NoneBefore places (take k words)

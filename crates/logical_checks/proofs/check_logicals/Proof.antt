@@ -39,7 +39,8 @@ module _ (c : tie.After-first-detected) where
 
   counted : Within code pairs
   counted =
-      within code (sized-of code (c .before .before .before .before .before .before .good .0)) limited (c .before .pair-count .ensures)
+      within code (sized-of code (c .before .before .before .before .before .before .good .0)) limited
+      (c .before .pair-count .ensures)
 
   abbrev whole : Option Refusal
   whole = qubitFault (code .n) then detectedFault code then pairingFault code

@@ -1,4 +1,4 @@
--- The weights are tried from the least on, and no lighter string is found.
+-- The weights are tried from 2 on, and no lighter string is found.
 use mathlib.Core.Path.{_≡_, sym, _∙_}
 use Prim.Native.Nat.{_-_, min}
 use native.Mathlib.Omega.{arith}
@@ -10,17 +10,17 @@ use Rattle.search.proofs.lightest.Statement.{statement}
 use Rattle.search.proofs.lightest.Tie as tie
 
 abbrev Inv-loop : tie.InvT-loop
-Inv-loop places first second qubits least t want shun most weight₀ weight-end weight =
+Inv-loop places first second qubits t want shun most weight₀ weight-end weight =
     NoneLighter first second qubits want shun weight
 
 abbrev μ-loop : tie.MeasureT-loop
-μ-loop places first second qubits least t want shun most weight₀ weight-end weight = weight-end - weight
+μ-loop places first second qubits t want shun most weight₀ weight-end weight = weight-end - weight
 
 abbrev Inv-search : tie.InvT-search
-Inv-search places first second qubits least t want shun most = Unit {0}
+Inv-search places first second qubits t want shun most = Unit {0}
 
 abbrev μ-search : tie.MeasureT-search
-μ-search places first second qubits least t want shun most = 0
+μ-search places first second qubits t want shun most = 0
 
 pub lightest-spec : {M : Type 1} → statement M
 lightest-spec =
