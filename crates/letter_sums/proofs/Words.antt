@@ -46,7 +46,7 @@ sum-moves w x want =
         ∙ xor-zero-l want
 
 -- Two words whose sum is 0 are the same.
-pub same-words : (want w : ℕ) → bitXor want w ≡ 0 → w ≡ want
+same-words : (want w : ℕ) → bitXor want w ≡ 0 → w ≡ want
 same-words want w e =
     eqb-true w want
     (sym (ap (λ (x : ℕ). eqb x want) (xor-zero-r w)) ∙ sum-moves w 0 want ∙ eq-eqb 0 (bitXor want w) (sym e))

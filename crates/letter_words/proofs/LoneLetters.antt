@@ -1,15 +1,14 @@
 -- The earliest string of one letter, from the sets of qubits at which X, Y and Z have the wanted syndrome: the last
 -- qubit of any set, and the first letter there.
 use mathlib.Core.Bool.{Bool, true, false, true≢false, not, _&&_, and-true}
-use mathlib.Core.List.{List, _∷_, _++_}
+use mathlib.Core.List.{List}
 use mathlib.Core.Option.{none, some}
-use mathlib.Core.Path.{_≡_, refl, ap, ap₂, subst, sym, _∙_}
+use mathlib.Core.Path.{_≡_, ap, ap₂, sym, _∙_}
 use Prim.Native.Nat.{ℕ, zero, suc, _+_, _-_, _*_, _/_, _%_, _^_, _<_, _≤_}
 use native.Mathlib.Decide.{ℕ-discrete}
 use native.Mathlib.Omega.{arith}
 use borrow.Author.Count.{below-none, below-more}
 use borrow.Author.Tests.{eq-eqb, eqb-true}
-use lib.Bits.{bitXor, xor-self}
 use lib.Dec.{eqb}
 use lib.ListN.{getD, replicate, getD-replicate}
 use Rattle.letters.specs.declared.Letter.{Letter}
@@ -24,8 +23,7 @@ use Rattle.code_record.specs.declared.Code.{Code}
 use Rattle.code_record.specs.Record.{generators}
 use Rattle.letter_sums.specs.declared.Found.{Found}
 use Rattle.letter_sums.specs.Sums.{sumsTo, passes, earliestOf, earliestUpTo, placedAt, foundAs}
-use Rattle.letter_sums.proofs.Masks.{found-some, identity-found, placed-found, nothing-found}
-use Rattle.letter_sums.proofs.Words.{same-words, none-single, found-here, identity-fits, identity-unwanted}
+use Rattle.letter_sums.proofs.Words.{identity-fits, identity-unwanted, PassedOver, lone-nowhere, lone-here}
 use Rattle.letter_sums.proofs.Words.{up-to-some, up-to-none}
 use Rattle.letter_words.specs.declared.LetterSets.{LetterSets}
 use Rattle.letter_words.specs.Words.{singleLetter, letterFor, wordsOf, wordRoom, wordQubits, syndromeWords}
@@ -126,25 +124,20 @@ module _ (c : Code) (want : ℕ) where
         has k (wordQubits c - 1 - m) (omega (arith, word-qubits-fit c))
         ∙ ap (λ (word : ℕ). eqb word want) (sym (word-there m k small inside))
 
-    none-to-the-right : (m : ℕ) → m ≤ wordQubits c → NoneFrom sets (wordQubits c) (wordQubits c - m)
-        → earliestOf first second m 1 want 1 ≡ none
-    none-to-the-right m inside nothing =
-        none-single first second m want 1 λ j below e.
-        let at : j ≡ 3 * (j / 3) + j % 3 = omega arith in
+    -- A letter that does not fit has another word.
+    passed-over : (j : ℕ) → j < 3 * wordQubits c → fits sets (wordQubits c - 1 - j / 3) (j % 3) ≡ false
+        → PassedOver first second want 1 j
+    passed-over j inside unfit own =
+        let at : 3 * (j / 3) + j % 3 ≡ j = omega arith in
         let fitting = word-fits (j / 3) (j % 3) (omega arith) (omega arith) in
-        let same : getD first (3 * (j / 3) + j % 3) 0 ≡ want =
-        ap (λ (i : ℕ). getD first i 0) (sym at) ∙ e in
-        true≢false
-        (sym (fitting ∙ eq-eqb _ want same)
-        ∙ nothing (wordQubits c - 1 - j / 3) (j % 3) (omega arith) (omega arith) (omega arith))
+        absurd
+        (true≢false (sym (fitting ∙ eq-eqb _ want (ap (λ (i : ℕ). getD first i 0) at ∙ own)) ∙ unfit))
 
     pub none-fits : NoneFrom sets (wordQubits c) 0 → Found.Nothing ≡ foundAs (loneLetter c want)
     none-fits nothing =
-        let all : wordQubits c - wordQubits c ≡ 0 = omega arith in
-        nothing-found (loneLetter c want)
-        (lone-by-words
-        ∙ none-to-the-right (wordQubits c) (omega arith)
-        (subst (λ (q : ℕ). NoneFrom sets (wordQubits c) q) (sym all) nothing))
+        lone-nowhere first second (wordQubits c) want 1 (3 * wordQubits c) (omega arith)
+        (λ j l. passed-over j l (nothing _ (j % 3) (omega arith) (omega arith) (omega arith)))
+        ∙ ap foundAs (sym lone-by-words)
 
     module _ (qubit k : ℕ) (inside : qubit < wordQubits c) (small : k < 3)
         (behind : NoneFrom sets (wordQubits c) (qubit + 1))
@@ -152,37 +145,35 @@ module _ (c : Code) (want : ℕ) where
       abbrev right : ℕ
       right = wordQubits c - 1 - qubit
 
-      at-qubit : wordQubits c - 1 - right ≡ qubit
-      at-qubit = omega arith
+      abbrev place : ℕ
+      place = 3 * right + k
 
-      abbrev wordOf : ℕ → ℕ
-      wordOf j = getD first (3 * right + j) 0
+      own : getD first place 0 ≡ want
+      own =
+          let at-qubit : wordQubits c - 1 - right ≡ qubit = omega arith in
+          eqb-true (getD first place 0) want
+          (sym (word-fits right k small (omega arith)) ∙ ap (λ (q : ℕ). fits sets q k) at-qubit ∙ here)
 
-      told : (j : ℕ) → j < 3 → eqb (wordOf j) want ≡ fits sets qubit j
-      told j h = sym (word-fits right j h (omega arith)) ∙ ap (λ (q : ℕ). fits sets q j) at-qubit
-
-      no-second : (j : ℕ) → j < 3 → getD second (3 * right + j) 0 ≡ 0
+      unshunned : getD second place 0 ≡ 1 → ⊥
       unfolding syndromeWords
-      no-second j h = getD-replicate wordRoom (3 * right + j) 0 0 (omega (arith, word-qubits-fit c))
+      unshunned e = omega (arith, e, getD-replicate {A = ℕ} wordRoom place 0 0 (omega (arith, word-qubits-fit c)))
+
+      unfit : (j : ℕ) → j < place → fits sets (wordQubits c - 1 - j / 3) (j % 3) ≡ false
+      unfit j l = elim (ℕ-discrete (j / 3) right) [
+        | yes e ↦
+            let at-qubit : wordQubits c - 1 - j / 3 ≡ qubit = omega arith in
+            ap (λ (q : ℕ). fits sets q (j % 3)) at-qubit ∙ before (j % 3) (omega arith)
+        | no e ↦ behind _ (j % 3) (omega arith) (omega arith) (omega arith)
+      ]
 
       pub found-there : placedAt qubit (struckLetter k) 0 0 ≡ foundAs (loneLetter c want)
       found-there =
-          let rest = found-some 0 0 (some (replicate right I)) (identity-found right (some (replicate right I)) refl) in
-          let whole : wordOf k ≡ want = eqb-true (wordOf k) want (told k small ∙ here) in
-          let gap : wordQubits c - right - 1 ≡ qubit = omega arith in
-          placed-found qubit 0 0 (struckLetter k) (rest .string) (loneLetter c want) (rest .isA) (rest .isB)
-          (lone-by-words
-          ∙ found-here first second (wordQubits c) 1 want 1 right k (rest .string) (omega arith)
-          (omega arith) small
-          (none-to-the-right right (omega arith)
-          (subst (λ (q : ℕ). NoneFrom sets (wordQubits c) q) (omega arith) behind))
-          (λ j l. identity-unwanted first second right _ _
-          (λ e.
-          true≢false (sym (eq-eqb (wordOf j) want (same-words want (wordOf j) e)) ∙ told j (omega arith) ∙ before j l)))
-          (identity-fits first second right _ _ (ap (bitXor want) whole ∙ xor-self want)
-          (λ e. let one : 1 ≡ 0 = sym (ap (bitXor 1) (no-second k small)) ∙ e in absurd (omega arith))
-          ∙ rest .told)
-          ∙ ap (λ (g : ℕ). some (replicate g I ++ (struckLetter k ∷ rest .string))) gap)
+          let gap : qubit ≡ wordQubits c - place / 3 - 1 = omega arith in
+          let number : k ≡ place % 3 = omega arith in
+          ap₂ (λ (g l : ℕ). placedAt g (struckLetter l) 0 0) gap number
+          ∙ lone-here first second (wordQubits c) want 1 place (omega arith)
+          (λ j l. passed-over j (omega arith) (unfit j l)) own unshunned
+          ∙ ap foundAs (sym lone-by-words)
 
 -- A qubit more at which no letter fits.
 pub none-here : (sets : LetterSets) (n qubit : ℕ) → NoneFrom sets n (qubit + 1)
