@@ -1,7 +1,7 @@
 //! Corrections for syndromes.
 
 use super::limits::check_limits;
-use super::walk::{Masks, Walk};
+use super::walk::{radius, Masks, Walk};
 use super::words::Words;
 use super::{letters, refusal};
 use reinoften::{Code, Pauli, Refusal};
@@ -16,7 +16,7 @@ pub fn decode<W: Walk>(
     check_limits(&code)?;
     let want = read_syndrome(code.r, characters).ok_or(refusal(16, 0))?;
     let out = out.get_mut(..code.n).ok_or(refusal(17, 0))?;
-    let Some((a, b)) = correction(&walk::<W>(&code), want) else {
+    let Some((a, b)) = W::correct(&code, want) else {
         return Ok(None);
     };
     for (byte, letter) in out.iter_mut().zip(letters(code.n, a, b)) {
@@ -32,7 +32,7 @@ pub fn correct<W: Walk>(code: Code, syndrome: u32) -> Result<Option<Pauli>, Refu
     if syndrome >> code.r != 0 {
         return Err(refusal(16, 0));
     }
-    Ok(correction(&walk::<W>(&code), syndrome).map(|(a, b)| {
+    Ok(W::correct(&code, syndrome).map(|(a, b)| {
         let p = (a & b).count_ones() % 4;
         Pauli { p, a, b }
     }))
@@ -40,7 +40,7 @@ pub fn correct<W: Walk>(code: Code, syndrome: u32) -> Result<Option<Pauli>, Refu
 
 /// The walk for the corrections of a code, which serves for any number of syndromes.
 pub fn walk<W: Walk>(code: &Code) -> W {
-    W::of(Words::of_syndromes(code), (code.d - 1) / 2)
+    W::of(Words::of_syndromes(code), radius(code))
 }
 
 /// No second word is 1, so no string is passed over.

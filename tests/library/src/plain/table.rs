@@ -1,7 +1,8 @@
 //! The walk with a table in front of the scan of the last letter, as the library has it.
 
-use super::walk::{of_weight, placed, single, Masks, Walk};
+use super::walk::{of_weight, placed, radius, single, Masks, Walk};
 use super::words::Words;
+use reinoften::Code;
 
 const SLOTS: usize = 4096;
 
@@ -34,6 +35,19 @@ impl Walk for Table {
         Table { words, most }
     }
 
+    /// One letter is looked for without words.
+    fn correct(code: &Code, syndrome: u32) -> Option<Masks> {
+        let t = radius(code);
+        if syndrome == 0 {
+            return Some((0, 0));
+        }
+        let found = if t == 0 { None } else { lone(code, syndrome) };
+        if found.is_some() || t < 2 {
+            return found;
+        }
+        Table::of(Words::of_syndromes(code), t).earliest(syndrome, 1)
+    }
+
     fn earliest(&self, want: u32, shun: u64) -> Option<Masks> {
         let (first, second) = self.words.on(self.words.qubits);
         let mut light = 0..=self.most.min(1);
@@ -45,6 +59,22 @@ impl Walk for Table {
         let mut heavy = 2..=self.most;
         heavy.find_map(|weight| self.walk(places, self.words.qubits, weight, want, shun))
     }
+}
+
+/// The earliest letter with a syndrome: for X, Y and Z those qubits stay whose letter has each generator's bit.
+fn lone(code: &Code, syndrome: u32) -> Option<Masks> {
+    let mut fitting = [u32::MAX; 3];
+    for (place, row) in code.g[..code.r].iter().enumerate() {
+        let unwanted = (syndrome >> place & 1).wrapping_sub(1);
+        for (set, mask) in fitting.iter_mut().zip([row.b, row.a ^ row.b, row.a]) {
+            *set &= mask ^ unwanted;
+        }
+    }
+    (0..code.n).rev().find_map(|qubit| {
+        let letter = fitting.iter().position(|set| set >> qubit & 1 == 1)?;
+        let (x, z) = [(1, 0), (1, 1), (0, 1)][letter];
+        Some((x << qubit, z << qubit))
+    })
 }
 
 impl Table {

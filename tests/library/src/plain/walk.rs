@@ -1,17 +1,28 @@
 //! Walks through strings of letters, from the earliest on.
 
 use super::words::Words;
+use reinoften::Code;
 
 /// The masks of a string.
 pub type Masks = (u32, u32);
 
 /// A form of the walk, by words, through the strings of at most a weight.
-pub trait Walk {
+pub trait Walk: Sized {
     fn of(words: Words, most: usize) -> Self;
+
+    /// The correction for one syndrome of a code. No second word is 1, so no string is passed over.
+    fn correct(code: &Code, syndrome: u32) -> Option<Masks> {
+        Self::of(Words::of_syndromes(code), radius(code)).earliest(syndrome, 1)
+    }
 
     /// The earliest string whose first words sum to the wanted word and whose second words do not sum to the shunned
     /// one.
     fn earliest(&self, want: u32, shun: u64) -> Option<Masks>;
+}
+
+/// How many struck qubits are corrected.
+pub fn radius(code: &Code) -> usize {
+    (code.d - 1) / 2
 }
 
 /// At the last letter all words of the qubits that are left are scanned.

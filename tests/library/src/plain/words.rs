@@ -21,11 +21,13 @@ impl Words {
         let generators = &code.g[..code.r];
         let mut first = [0; 72];
         for (letters, qubit) in first.chunks_exact_mut(3).zip((0..code.n).rev()) {
-            let (mut x, mut z) = (0, 0);
+            // the word of Z in the low half, that of X in the high half
+            let mut both = 0;
             for row in generators.iter().rev() {
-                x = (2 * x) | (row.b >> qubit & 1);
-                z = (2 * z) | (row.a >> qubit & 1);
+                let masks = u64::from(row.a) | u64::from(row.b) << 32;
+                both = (2 * both) | (masks >> qubit & 0x1_0000_0001);
             }
+            let (x, z) = ((both >> 32) as u32, both as u32);
             letters.copy_from_slice(&[x, x ^ z, z]);
         }
         Words {
