@@ -36,13 +36,15 @@ use Rattle.syndrome_reader.proofs.ReadMask.{mask-is-of-bits}
 use Rattle.corrections.specs.declared.Correction.{Correction}
 use Rattle.corrections.specs.Corrections.{correctionOf}
 use Rattle.corrections.proofs.ByValue.{qubits-have-words, same-correction}
+use Rattle.decoding.specs.declared.LettersDecoded.{LettersDecoded}
+use Rattle.decoding.specs.Letters.{lettersDecoded}
 
 -- ---- the letters of what was found
 
--- What is answered, and what the buffer holds then, where the search has this outcome.
-abbrev Ends : Option (List Letter) → List ℕ → Decoded → List ℕ → Type 0
-Ends found buffer answer after =
-    (answer ≡ (corrected found buffer) .answer) × (after ≡ (corrected found buffer) .buffer)
+-- What is answered on n qubits, and what the buffer holds then, where the search has this outcome.
+abbrev Ends : ℕ → Option (List Letter) → List ℕ → LettersDecoded → List ℕ → Type 0
+Ends n found buffer answer after =
+    (answer ≡ lettersDecoded n ((corrected found buffer) .answer)) × (after ≡ (corrected found buffer) .buffer)
 
 isFound : Correction → Bool
 isFound (Correction.Found P) = true
@@ -52,17 +54,17 @@ pauliIn : Correction → Pauli
 pauliIn (Correction.Found P) = P
 pauliIn Correction.None = identity
 
-pub ends-none : (found : Option (List Letter)) (buffer : List ℕ) → Correction.None ≡ correctionOf found
-    → Ends found buffer Decoded.None buffer
-unfolding correctionOf corrected untouched isFound
-ends-none none buffer e = (refl, refl)
-ends-none (some s) buffer e = absurd (false≢true (ap isFound e))
+pub ends-none : (n : ℕ) (found : Option (List Letter)) (buffer : List ℕ) → Correction.None ≡ correctionOf found
+    → Ends n found buffer LettersDecoded.None buffer
+unfolding correctionOf corrected untouched isFound lettersDecoded
+ends-none n none buffer e = (refl, refl)
+ends-none n (some s) buffer e = absurd (false≢true (ap isFound e))
 
 pub ends-letters : (n : ℕ) (found : Option (List Letter)) (buffer after : List ℕ) (P : Pauli)
     → ((s : List Letter) → found ≡ some s → length s ≡ n) → Correction.Found P ≡ correctionOf found
     → after ≡ laid (letterText n P) buffer
-    → Ends found buffer Decoded.Correction after
-unfolding correctionOf corrected isFound pauliIn
+    → Ends n found buffer (LettersDecoded.Count n) after
+unfolding correctionOf corrected isFound pauliIn lettersDecoded
 ends-letters n none buffer after P count e content = absurd (false≢true (sym (ap isFound e)))
 ends-letters n (some s) buffer after P count e content = (
   refl,
@@ -81,12 +83,13 @@ found-count c t mask within s e =
 -- ---- the call
 
 module _ (c : Code) (characters buffer : List ℕ) where
-  abbrev Answers : Decoded → List ℕ → Type 0
+  abbrev Answers : LettersDecoded → List ℕ → Type 0
   Answers answer after =
-      (answer ≡ (decode c characters buffer) .answer) × (after ≡ (decode c characters buffer) .buffer)
+      (answer ≡ lettersDecoded (c .n) ((decode c characters buffer) .answer))
+      × (after ≡ (decode c characters buffer) .buffer)
 
-  pub outside-limits : withinLimits c ≡ false → Answers (Decoded.Refused Refusal.RecordLimits) buffer
-  unfolding decode guarded untouched _then_
+  pub outside-limits : withinLimits c ≡ false → Answers (LettersDecoded.Refused Refusal.RecordLimits) buffer
+  unfolding decode guarded untouched _then_ lettersDecoded
   outside-limits h = rw (limits-broken c h) (refl, refl)
 
   module _ (within : withinLimits c ≡ true) where
@@ -94,8 +97,8 @@ module _ (c : Code) (characters buffer : List ℕ) where
     few = let l = limits c within in omega (arith, l .qubits, l .generatorCount)
 
     pub no-syndrome : readMask (c .r) characters ≡ SyndromeRead.Malformed
-        → Answers (Decoded.Refused (Refusal.Syndrome 0)) buffer
-    unfolding decode guarded untouched syndromeFault isNone _then_
+        → Answers (LettersDecoded.Refused (Refusal.Syndrome 0)) buffer
+    unfolding decode guarded untouched syndromeFault isNone _then_ lettersDecoded
     no-syndrome h =
         rw (
           limits-kept c within,
@@ -111,8 +114,8 @@ module _ (c : Code) (characters buffer : List ℕ) where
       bits-read : readSyndrome (c .r) characters ≡ some bits
       bits-read = mask-is-of-bits .told (c .r) characters mask read .1
 
-      pub too-short : length buffer < c .n → Answers (Decoded.Refused Refusal.ShortBuffer) buffer
-      unfolding decode guarded untouched syndromeFault isNone _then_ roomFault
+      pub too-short : length buffer < c .n → Answers (LettersDecoded.Refused Refusal.ShortBuffer) buffer
+      unfolding decode guarded untouched syndromeFault isNone _then_ roomFault lettersDecoded
       too-short h =
           rw (
             limits-kept c within,
@@ -143,8 +146,8 @@ module _ (c : Code) (characters buffer : List ℕ) where
               refuseIf-false Refusal.ShortBuffer (le-ltb (length buffer) (c .n) room),
             )
 
-        pub has-room : {answer : Decoded} {after : List ℕ} → Ends (earliestWith c (radius c) mask) buffer answer after
-            → Answers answer after
+        pub has-room : {answer : LettersDecoded} {after : List ℕ}
+            → Ends (c .n) (earliestWith c (radius c) mask) buffer answer after → Answers answer after
         has-room ends =
             let e = ap (λ found. corrected found buffer) found-is ∙ decoded-is in
-            (ends .0 ∙ ap (λ end. end .answer) e, ends .1 ∙ ap (λ end. end .buffer) e)
+            (ends .0 ∙ ap (λ end. lettersDecoded (c .n) (end .answer)) e, ends .1 ∙ ap (λ end. end .buffer) e)

@@ -41,7 +41,7 @@ pub extern "C" fn reinoften_syndrome(code: Code, error: Pauli, out: &mut [u8]) -
     ensures { λ r. ⌜ r ≡ (syndromeCall code error (now (out .entry))) .answer ⌝ }
     ensures { λ _. ⌜ now (out .exit) ≡ (syndromeCall code error (now (out .entry))) .buffer ⌝ }
 {
-    Answer::of_syndrome(syndrome_writer::write_syndrome(code, error, out), code.r)
+    Answer::of_written(syndrome_writer::write_characters(code, error, out))
 }
 
 // The correction for a syndrome that is given as characters, as letters.
@@ -50,7 +50,7 @@ pub extern "C" fn reinoften_decode(code: Code, syndrome: &[u8], out: &mut [u8]) 
     ensures { λ r. ⌜ r ≡ (decodeCall code (now (syndrome .entry)) (now (out .entry))) .answer ⌝ }
     ensures { λ _. ⌜ now (out .exit) ≡ (decodeCall code (now (syndrome .entry)) (now (out .entry))) .buffer ⌝ }
 {
-    Answer::of_decoded(decoding::decode(code, syndrome, out), code.n)
+    Answer::of_letters(decoding::decode_letters(code, syndrome, out))
 }
 
 // The correction for a syndrome that is given as a mask, by value.

@@ -13,6 +13,7 @@ use Rattle.admission.specs.declared.Admission.{Admission}
 use Rattle.admission.specs.declared.Reading.{Reading}
 use Rattle.decoder.specs.declared.Decoded.{Decoded}
 use Rattle.decoder.specs.declared.SyndromeAnswer.{SyndromeAnswer}
+use Rattle.decoding.specs.declared.LettersDecoded.{LettersDecoded}
 use Rattle.mask_decoding.specs.declared.MaskDecoded.{MaskDecoded}
 use Rattle.rack_answers.specs.declared.Answer.{Answer}
 use Rattle.rack_answers.specs.declared.CorrectionAnswer.{CorrectionAnswer}
@@ -58,6 +59,12 @@ abbrev pub decodedAnswer : ℕ → Decoded → Answer
 decodedAnswer n Decoded.Correction = done n
 decodedAnswer n Decoded.None = noCorrection
 decodedAnswer n (Decoded.Refused refusal) = refusedAnswer refusal
+
+-- Of the decode call that counts its letters.
+abbrev pub lettersAnswer : LettersDecoded → Answer
+lettersAnswer (LettersDecoded.Count n) = done n
+lettersAnswer LettersDecoded.None = noCorrection
+lettersAnswer (LettersDecoded.Refused refusal) = refusedAnswer refusal
 
 -- RULES, "The library": beside a refusal and `none` the correction is +I.
 abbrev pub noValue : Answer → CorrectionAnswer

@@ -3,8 +3,7 @@
 use admission::Admission;
 use admission::Reading;
 use code_record::Code;
-use decoder::Decoded;
-use decoder::SyndromeAnswer;
+use decoding::LettersDecoded;
 use mask_decoding::MaskDecoded;
 use pauli::Pauli;
 use refusals::ErrorPair;
@@ -15,8 +14,7 @@ ghost use mathlib.Core.Path.{_≡_};
 ghost use mathlib.Core.Option.{none};
 ghost use Rattle.refusals.specs.Refusals.{values};
 ghost use Rattle.rack_answers.specs.Answers.{done, noCorrection, familyByte, refusedAnswer, writtenAnswer};
-ghost use Rattle.rack_answers.specs.Answers.{syndromeAnswer, decodedAnswer, noValue, correctionAnswer};
-ghost use Rattle.rack_answers.specs.Answers.{errorsIn, sheetAnswer};
+ghost use Rattle.rack_answers.specs.Answers.{lettersAnswer, noValue, correctionAnswer, errorsIn, sheetAnswer};
 
 // The number of `none`, which is no refusal.
 pub const NONE: u32 = 255;
@@ -94,7 +92,7 @@ impl Answer {
         }
     }
 
-    // Of a call that writes a text.
+    // Of a call that counts the bytes it writes.
     pub fn of_written(answer: Written) -> Answer
         ensures { λ r. ⌜ r ≡ writtenAnswer answer ⌝ }
     {
@@ -104,24 +102,14 @@ impl Answer {
         }
     }
 
-    // Of the syndrome call on a record of r generators.
-    pub fn of_syndrome(answer: SyndromeAnswer, r: usize) -> Answer
-        ensures { λ a. ⌜ a ≡ syndromeAnswer r answer ⌝ }
+    // Of the decode call that counts its letters.
+    pub fn of_letters(answer: LettersDecoded) -> Answer
+        ensures { λ r. ⌜ r ≡ lettersAnswer answer ⌝ }
     {
         match answer {
-            SyndromeAnswer::Given => Answer::done(r),
-            SyndromeAnswer::Refused(refusal) => Answer::refused(refusal),
-        }
-    }
-
-    // Of the decode call on a record of n qubits.
-    pub fn of_decoded(answer: Decoded, n: usize) -> Answer
-        ensures { λ r. ⌜ r ≡ decodedAnswer n answer ⌝ }
-    {
-        match answer {
-            Decoded::Correction => Answer::done(n),
-            Decoded::None => Answer::none(),
-            Decoded::Refused(refusal) => Answer::refused(refusal),
+            LettersDecoded::Count(n) => Answer::done(n),
+            LettersDecoded::None => Answer::none(),
+            LettersDecoded::Refused(refusal) => Answer::refused(refusal),
         }
     }
 }

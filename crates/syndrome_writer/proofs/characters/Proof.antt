@@ -4,7 +4,6 @@ use Prim.Native.Nat.{_-_, _≤_}
 use native.Mathlib.Omega.{arith}
 use lib.ListN.{length, take, set}
 use Rattle.code_record.specs.Record.{rowRoom}
-use Rattle.code_record.proofs.ArrayLengths.{sized-of}
 use Rattle.sheet.specs.Text.{laid}
 use Rattle.sheet.proofs.Laid.{laid-nothing}
 use Rattle.syndrome_writer.proofs.SyndromeText.{charactersOf, character-laid, length-laid-so-far}
@@ -14,25 +13,25 @@ use Rattle.syndrome_writer.proofs.characters.Statement.{statement}
 use Rattle.syndrome_writer.proofs.characters.Tie as tie
 
 abbrev Inv-loop : tie.InvT-loop
-Inv-loop p out₀ code place₀ out place = (place ≤ code .r) × (out ≡ laid (take place (charactersOf code p)) out₀)
+Inv-loop r p out₀ g place₀ out place = (place ≤ r) × (out ≡ laid (take place (charactersOf r g p)) out₀)
 
 abbrev μ-loop : tie.MeasureT-loop
-μ-loop p out₀ code place₀ out place = code .r - place
+μ-loop r p out₀ g place₀ out place = r - place
 
 -- ---- at each turn
 
 abbrev start : tie.At-loop Inv-loop μ-loop → tie.Start Inv-loop μ-loop
 start c = c .before .before
 
-room : (c : tie.At-loop Inv-loop μ-loop) → length (start c .args .t1 .g) ≡ rowRoom
-room c = sized-of (start c .args .t1) (start c .good .0) .roomG
+room : (c : tie.At-loop Inv-loop μ-loop) → length (start c .args .t2) ≡ rowRoom
+room c = search needs
 
 size : (c : tie.At-loop Inv-loop μ-loop) → length (c .loop .out) ≡ length (start c .args .out .now)
 size c =
     let a = start c .args in
     ap length (c .loop .inv .1)
-    ∙ length-laid-so-far (a .t1) (a .p) (room c) (start c .pre .0) (a .out .now) (start c .pre .1) (c .loop .place)
-    (c .loop .inv .0)
+    ∙ length-laid-so-far (a .r) (a .t2) (a .p) (room c) (start c .pre .0) (a .out .now) (start c .pre .1)
+    (c .loop .place) (c .loop .inv .0)
 
 -- ---- the needs
 
@@ -47,11 +46,11 @@ loop-again c =
     let turn = c .before .before .before in
     let a = start turn .args in
     let l = turn .loop in
-    let before = laid (take (l .place) (charactersOf (a .t1) (a .p))) (a .out .now) in (
+    let before = laid (take (l .place) (charactersOf (a .r) (a .t2) (a .p))) (a .out .now) in (
       search needs,
       ap (λ bytes. set bytes (l .place) (c .character .result)) (l .inv .1)
           ∙ ap (λ byte. set before (l .place) byte) (c .character .ensures)
-          ∙ character-laid (a .t1) (a .p) (room turn) (start turn .pre .0) (a .out .now) (start turn .pre .1)
+          ∙ character-laid (a .r) (a .t2) (a .p) (room turn) (start turn .pre .0) (a .out .now) (start turn .pre .1)
           (l .place) (search needs),
     )
 
@@ -65,7 +64,7 @@ returns c =
     let l = c .before .loop in
     l .inv .1
     ∙ ap (λ text. laid text (a .out .now))
-    (characters-whole (a .t1) (a .p) (room (c .before)) (s .pre .0) (l .place) (search needs))
+    (characters-whole (a .r) (a .t2) (a .p) (room (c .before)) (s .pre .0) (l .place) (search needs))
 
 pub characters-spec : {M : Type 1} → statement M
 characters-spec =

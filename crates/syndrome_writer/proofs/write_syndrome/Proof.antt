@@ -1,53 +1,40 @@
--- The call answers as `writeSyndrome` says: 15, or 17, or the characters, as the tests go.
-use mathlib.Core.Bool.{true}
-use mathlib.Core.Path.{_≡_}
-use native.Mathlib.Omega.{arith}
-use Rattle.code_record.specs.Record.{withinLimits}
-use Rattle.code_record.proofs.Limits.{limits}
-use Rattle.code_record.proofs.Tests.{passed, failed}
-use Rattle.syndrome_writer.proofs.SyndromeText.{outside-limits, too-short, has-room}
+-- The answer of the call that counts its characters, case by case.
+use mathlib.Core.Path.{_≡_, refl, ap, sym, _∙_}
+use Prim.Native.Nat.{ℕ}
+use Rattle.refusals.specs.declared.Written.{Written}
+use Rattle.decoder.specs.declared.SyndromeAnswer.{SyndromeAnswer}
+use Rattle.decoder.specs.Syndrome.{writeSyndrome}
 use borrow.Author.Needs.{needs}
+use Rattle.syndrome_writer.specs.Characters.{charactersWritten}
 use Rattle.syndrome_writer.proofs.write_syndrome.Statement.{statement}
 use Rattle.syndrome_writer.proofs.write_syndrome.Tie as tie
 
-abbrev start : tie.Else1 → tie.Start
-start c = c .before .before .before
+abbrev uncounted : Written → SyndromeAnswer
+uncounted (Written.Count r) = SyndromeAnswer.Given
+uncounted (Written.Refused refusal) = SyndromeAnswer.Refused refusal
 
-within : (c : tie.Else1) → withinLimits (start c .args .code) ≡ true
-within c = passed (c .before .within-limits .ensures) (c .if1 .left)
+counted-back : (r : ℕ) (answer : SyndromeAnswer) → uncounted (charactersWritten r answer) ≡ answer
+unfolding charactersWritten
+counted-back r SyndromeAnswer.Given = refl
+counted-back r (SyndromeAnswer.Refused refusal) = refl
+
+told : (c : tie.After-write-characters) (case : Written) → c .write-characters .result ≡ case
+    → let a = c .before .before .before .args in
+    uncounted case ≡ (writeSyndrome (a .code) (a .p) (a .out .now)) .answer
+told c case is = ap uncounted (sym is ∙ c .write-characters .ensures .0) ∙ counted-back _ _
 
 returns : tie.Need-returns
 returns c =
-    let a = c .before .before .before .args in
-    outside-limits (a .code) (a .p) (a .out .now) (failed (c .before .within-limits .ensures) (c .if1 .taken))
+    let call = c .before .before .before .before in
+    (told call _ (c .enum-told .given .1), call .write-characters .ensures .1)
 
 returns-2 : tie.Need-returns-2
 returns-2 c =
-    let at = c .before .before in
-    let a = start at .args in
-    too-short (a .code) (a .p) (a .out .now) (within at) (c .if2 .taken)
-
-characters-requires : tie.Need-characters-requires
-characters-requires c κs =
-    let at = c .before .before .before in
-    let l = limits (start at .args .code) (within at) in
-    (omega (arith, l .qubits, l .generatorCount), c .before .if2 .left)
-
-returns-3 : tie.Need-returns-3
-returns-3 c =
-    let call = c .before .before in
-    let behind = call .before .before in
-    let at = behind .before .before in
-    let a = start at .args in
-    has-room (a .code) (a .p) (a .out .now) (within at) (behind .if2 .left) (call .characters .ensures)
+    let call = c .before .before .before .before .before in
+    (told call _ (c .before .refusal .given .1), call .write-characters .ensures .1)
 
 pub write-syndrome-spec : {M : Type 1} → statement M
 write-syndrome-spec =
     tie.close
-    (tie.spec
-    (λ c κs. search needs)
-    returns
-    returns-2
-    characters-requires
-    (λ c. search needs)
-    returns-3)
+    (tie.spec (λ c κs. search needs) (λ c. search needs) (λ c. search needs) (λ c. search needs)
+    returns (λ c. search needs) returns-2)

@@ -1,0 +1,2 @@
+-- What the contract of the decode call that counts its letters cites.
+pub mod Letters

@@ -1,0 +1,2 @@
+-- What the contract of the syndrome call that counts its characters cites.
+pub mod Characters
