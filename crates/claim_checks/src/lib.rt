@@ -16,7 +16,8 @@ pub fn check_claim(code: Code, reduced: ReducedRows, at: usize) -> Checked
     if code.w.weight() as usize != code.d {
         return Checked::Refused(Refusal::ClaimedWeight(at));
     }
-    if syndrome_mask(code, code.w) != 0 {
+    let g = code.g;
+    if syndrome_mask(g, code.r, code.w) != 0 {
         return Checked::Refused(Refusal::ClaimedAnticommutes(at));
     }
     if reduced.contains(code.w) {

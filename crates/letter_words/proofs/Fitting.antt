@@ -10,7 +10,7 @@ use native.Mathlib.Omega.{arith}
 use borrow.Author.Tests.{eq-eqb, ne-eqb}
 use lib.Bits.{bitAnd, bitXor, and-shr, xor-shr}
 use lib.Dec.{eqb}
-use lib.ListN.{length, drop, getD, drop-of-length-le}
+use lib.ListN.{length, drop, getD, length-take, drop-of-length-le}
 use lib.Pow.{pow-pos, shr-shr, ones-split, ones-lt, high}
 use Rattle.letters.specs.declared.Letter.{Letter}
 use Rattle.letters.specs.declared.Letter.the-variants.{X, Y, Z}
@@ -21,7 +21,7 @@ use Rattle.pauli.proofs.Masks.{digit, xor-low, and-low}
 use Rattle.code_record.specs.declared.Code.{Code}
 use Rattle.code_record.specs.Record.{rowRoom, generators}
 use Rattle.letter_sums.specs.Sums.{qubitRoom}
-use Rattle.syndrome_mask.proofs.GeneratorBits.{generators-length, mask-before}
+use Rattle.syndrome_mask.proofs.RowBits.{mask-before}
 use Rattle.letter_words.specs.Words.{singleLetter}
 use Rattle.letter_words.specs.Lone.{having, HasAt, AreCandidates}
 use Rattle.letter_words.proofs.LetterBits.{x-bit, y-bit, z-bit}
@@ -115,7 +115,7 @@ module _ (code : Code) (place want : ℕ) (some : 0 < place) (inside : place ≤
       → ((qubit : ℕ) → qubit < qubitRoom → symplectic row (singleLetter qubit l) ≡ bitOf mask qubit)
       → (set : ℕ) → HasAt (drop place (generators code)) (want / 2 ^ place) l set
       → HasAt (drop (place - 1) (generators code)) (want / 2 ^ (place - 1)) l (having set mask wantedBit)
-  unfolding HasAt
+  unfolding HasAt generators
   one-more-passed l mask read set has qubit within =
       let P = singleLetter qubit l in
       let word = syndromeMask (drop place (generators code)) P in
@@ -124,7 +124,7 @@ module _ (code : Code) (place want : ℕ) (some : 0 < place) (inside : place ≤
       ∙ ap₂ _&&_ (has qubit within ∙ ap (eqb word) (sym halved))
       (ap (λ (b : ℕ). eqb b wantedBit) (sym (read qubit within)))
       ∙ compared-apart word (symplectic row P) next (omega (arith, read qubit within))
-      ∙ ap (λ (m : ℕ). eqb m next) (mask-before code place P some inside)
+      ∙ ap (λ (m : ℕ). eqb m next) (mask-before (code .r) (code .g) place P some inside)
 
 -- ---- all three
 
@@ -135,8 +135,9 @@ pub record Passed (code : Code) (want place x y z : ℕ) : Type 0 where
 
 pub at-the-end : (code : Code) (want count all : ℕ) → length (code .g) ≡ rowRoom → count ≡ length (generators code)
     → all ≡ cond (eqb (want / 2 ^ count) 0) 4294967295 0 → Passed code want count all all all
+unfolding generators
 at-the-end code want count all room whole e = record {
-  few = omega (arith, generators-length code);
+  few = omega (arith, length-take (code .r) (code .g));
   inside = omega arith;
   sets = record { ofX = none X; ofY = none Y; ofZ = none Z };
 }

@@ -5,7 +5,7 @@ use Prim.Native.Nat.{ℕ, _+_, _-_, _*_, _/_, _%_, _^_, _<_, _≤_}
 use native.Mathlib.Nat.{pow-le-pow-right}
 use native.Mathlib.Omega.{arith}
 use lib.Bits.{bitXor}
-use lib.ListN.{length, drop, getD, drop-of-length-le}
+use lib.ListN.{length, drop, getD, length-take, drop-of-length-le}
 use Rattle.letters.specs.declared.Letter.{Letter}
 use Rattle.letters.specs.declared.Letter.the-variants.{X, Y, Z}
 use Rattle.pauli.specs.declared.Pauli.{Pauli}
@@ -15,7 +15,7 @@ use Rattle.pauli.proofs.Undetected.{syndrome-mask-lt}
 use Rattle.code_record.specs.declared.Code.{Code}
 use Rattle.code_record.specs.Record.{rowRoom, generators}
 use Rattle.letter_sums.specs.Sums.{qubitRoom}
-use Rattle.syndrome_mask.proofs.GeneratorBits.{generators-length, mask-before, mask-room}
+use Rattle.syndrome_mask.proofs.RowBits.{mask-before, mask-room}
 use Rattle.letter_words.specs.Words.{singleLetter}
 use Rattle.letter_words.proofs.LetterBits.{x-bit, z-bit}
 use Rattle.letter_words.proofs.Sums.{y-sum, syndromes-additive}
@@ -34,10 +34,10 @@ pub record WordsFrom (code : Code) (qubit place both : ℕ) : Type 0 where
 -- Behind the last generator there are no bits.
 pub none-read : (code : Code) (qubit : ℕ) → qubit < qubitRoom → length (code .g) ≡ rowRoom → {count : ℕ}
     → count ≡ length (generators code) → WordsFrom code qubit count 0
-unfolding syndromeMask syndrome maskOfBits
+unfolding syndromeMask syndrome maskOfBits generators
 none-read code qubit within room {count} all = record {
   within = within;
-  few = omega (arith, generators-length code);
+  few = omega (arith, length-take (code .r) (code .g));
   inside = omega arith;
   halves = omega (arith, none X, none Z);
 }
@@ -51,19 +51,20 @@ module _ {code : Code} {qubit place both : ℕ} (words : WordsFrom code qubit pl
     (room : length (code .g) ≡ rowRoom) (some : 0 < place) where
   -- Each half can be doubled, and one bit more joined to it.
   pub both-small : both ≤ 4294967297 * (2 ^ 31 - 1)
+  unfolding generators
   both-small =
-      let ofX = mask-room code place (singleLetter qubit X) room some in
-      let ofZ = mask-room code place (singleLetter qubit Z) room some in omega (arith, words .halves)
+      let ofX = mask-room (code .r) (code .g) place (singleLetter qubit X) room some in
+      let ofZ = mask-room (code .r) (code .g) place (singleLetter qubit Z) room some in omega (arith, words .halves)
 
   row : Pauli
   row = getD (code .g) (place - 1) identity
 
   longer : (l : Letter) {bit : ℕ} → symplectic row (singleLetter qubit l) ≡ bit
       → 2 * wordFrom code qubit place l + bit ≡ wordFrom code qubit (place - 1) l
-  unfolding row
+  unfolding row generators
   longer l read =
       ap (λ (b : ℕ). 2 * wordFrom code qubit place l + b) (sym read)
-      ∙ mask-before code place (singleLetter qubit l) some (words .inside)
+      ∙ mask-before (code .r) (code .g) place (singleLetter qubit l) some (words .inside)
 
   pub one-more-read : {bits : ℕ} → let g = getD (code .g) (place - 1) identity in
       bits ≡ g .a / 2 ^ qubit % 2 + 2 ^ 32 * (g .b / 2 ^ qubit % 2)
@@ -90,8 +91,9 @@ module _ {code : Code} {qubit place both : ℕ} (words : WordsFrom code qubit pl
 
   -- A word has no more bits than there is room for rows.
   word-fits : (l : Letter) → word l < 2 ^ 32
+  unfolding generators
   word-fits l =
-      let few : length (generators code) ≤ 32 = omega (arith, generators-length code) in
+      let few : length (generators code) ≤ 32 = omega (arith, length-take (code .r) (code .g)) in
       omega (
         arith,
         syndrome-mask-lt (generators code) (singleLetter qubit l),

@@ -1,1 +1,1 @@
-pub mod GeneratorBits
+pub mod RowBits

@@ -29,22 +29,23 @@ right-weight c =
     let w = c .before .before in
     by-weight w ∙ ap not (eq-eqb (w .weight .result) (start w .args .code .d) (c .if1 .left))
 
-by-mask : (c : tie.After-syndrome-mask) → let code = start (c .before .before .before) .args .code in
+by-mask : (c : tie.After-syndrome-mask) → let code = start (c .before .before .before .before) .args .code in
     not (eqb (syndromeMask (generators code) (code .w)) 0) ≡ not (eqb (c .syndrome-mask .result) 0)
+unfolding generators
 by-mask c = ap (λ m. not (eqb m 0)) (sym (c .syndrome-mask .ensures))
 
-undetected : (c : tie.Else2) → let code = start (c .before .before .before .before) .args .code in
+undetected : (c : tie.Else2) → let code = start (c .before .before .before .before .before) .args .code in
     not (eqb (syndromeMask (generators code) (code .w)) 0) ≡ false
 undetected c = by-mask (c .before) ∙ ap not (eq-eqb (c .before .syndrome-mask .result) 0 (c .if2 .left))
 
 -- The third test alone is left, whichever way it goes.
 by-rows : (c : tie.After-contains) (contained : Bool) → c .contains .result ≡ contained
-    → let a = start (c .before .before .before .before .before) .args in
+    → let a = start (c .before .before .before .before .before .before) .args in
     refuseIf contained (Refusal.ClaimedInGroup (a .at)) ≡ claimFault (a .at) (a .code) (a .reduced)
 unfolding refuseIf _then_
 by-rows c contained told =
     let clean = c .before in
-    let weighed = clean .before .before in
+    let weighed = clean .before .before .before in
     let a = start (weighed .before .before) .args in
     claim-found (a .at) (a .code) (a .reduced) (right-weight weighed) (undetected clean)
     (sym (c .contains .ensures) ∙ told)
@@ -63,7 +64,7 @@ returns-2 : tie.Need-returns-2
 unfolding refuseIf _then_
 returns-2 c =
     let told = c .before in
-    let weighed = told .before in
+    let weighed = told .before .before in
     let a = start (weighed .before .before) .args in
     claim-found (a .at) (a .code) (a .reduced) (right-weight weighed)
     (by-mask told ∙ ap not (ne-eqb (told .syndrome-mask .result) 0 (c .if2 .taken))) refl

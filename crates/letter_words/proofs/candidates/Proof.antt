@@ -3,9 +3,8 @@ use mathlib.Core.Path.{_≡_}
 use Prim.Native.Nat.{_-_}
 use native.Mathlib.Omega.{arith}
 use borrow.Author.Needs.{needs}
-use lib.ListN.{length}
-use Rattle.code_record.specs.Record.{rowRoom}
-use Rattle.syndrome_mask.proofs.GeneratorBits.{generators-length}
+use lib.ListN.{length, length-take}
+use Rattle.code_record.specs.Record.{rowRoom, generators}
 use Rattle.letter_words.specs.Words.{withGenerators}
 use Rattle.letter_words.proofs.Fitting.{Passed, at-the-end, one-more, all-passed}
 use Rattle.letter_words.proofs.candidates.Statement.{statement}
@@ -18,11 +17,12 @@ abbrev μ-loop : tie.MeasureT-loop
 μ-loop r syndrome g count all x₀ y₀ z₀ place₀ x y z place = place
 
 loop-holds : tie.Need-loop-holds Inv-loop μ-loop
+unfolding generators
 loop-holds c =
     let a = c .before .before .args in
     let code = withGenerators 0 (a .r) (a .t2) in
     let room : length (a .t2) ≡ rowRoom = search needs in
-    at-the-end code (a .syndrome) _ _ room (omega (arith, c .before .at-most .ensures, generators-length code))
+    at-the-end code (a .syndrome) _ _ room (omega (arith, c .before .at-most .ensures, length-take (a .r) (a .t2)))
     (c .candidates-at-first .ensures)
 
 loop-again : tie.Need-loop-again Inv-loop μ-loop

@@ -4,13 +4,12 @@ use mathlib.Core.List.{List}
 use mathlib.Core.Path.{_≡_, refl, ap, _∙_}
 use Prim.Native.Nat.{ℕ, _+_, _-_, _*_, _^_, _≤_}
 use native.Mathlib.Omega.{arith}
-use lib.ListN.{set, replicate, length}
+use lib.ListN.{set, replicate, length, length-take}
 use Rattle.pauli.specs.declared.Pauli.{Pauli}
 use Rattle.pauli.specs.Syndrome.{syndromeMask}
 use Rattle.code_record.specs.declared.Code.{Code}
 use Rattle.code_record.specs.Record.{rowRoom, generators}
 use Rattle.letter_sums.specs.declared.LetterWords.{LetterWords}
-use Rattle.syndrome_mask.proofs.GeneratorBits.{generators-length}
 use Rattle.letter_words.specs.Words.{wordRoom, wordsOf, wordQubits, syndromeWords, withGenerators}
 use Rattle.letter_words.proofs.Filling.{Filling, none-filled, three-more, all-filled}
 use Rattle.letter_words.proofs.GeneratorWords.{WordsFrom, none-read, both-small, one-more-read}
@@ -74,12 +73,13 @@ loop-holds c =
     )
 
 loop2-holds : tie.Need-loop2-holds Inv-loop2 μ-loop2 Inv-loop μ-loop
+unfolding generators
 loop2-holds c =
     let start = c .before .before .before .before in
     let code = code start in
     let loop = c .before .loop in
     none-read code (loop .qubit - 1) (omega (arith, loop .inv .0, loop .inv .1 .few)) (room start)
-    (omega (arith, c .before .before .at-most2 .ensures, generators-length code, room start))
+    (omega (arith, c .before .before .at-most2 .ensures, length-take (code .r) (code .g), room start))
 
 loop2-again : tie.Need-loop2-again Inv-loop2 μ-loop2 Inv-loop μ-loop
 loop2-again c =
