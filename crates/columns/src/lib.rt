@@ -1,12 +1,12 @@
-// The columns of a row, read as bits a1..an, b1..bn: where its first one stands, whether a mask has a one at all, and
-// how a row is cleared by another. This is what an elimination does most. So the X part and the Z part are told apart
-// by branches, and no column is computed where a bit is tested.
+// The columns of a row, read as bits a1..an, b1..bn: where its first one stands, whether a mask has a one at all, how a
+// row is cleared by another, and the phase that it then gets. This is what an elimination does most. So the X part and
+// the Z part are told apart by branches, and no column is computed where a bit is tested.
 use pauli::Pauli;
 ghost use mathlib.Core.Path.{_≡_};
 ghost use Prim.Native.Nat.{_/_, _%_, _^_};
 ghost use lib.Dec.{eqb, ltb};
 ghost use Rattle.pauli.specs.Masks.{bits};
-ghost use Rattle.pauli.specs.Product.{identity, sameMasks};
+ghost use Rattle.pauli.specs.Product.{identity, modulo4, sameMasks};
 ghost use Rattle.stabilizer.specs.Canonical.{firstOne, column, pivot, cleared};
 
 // Whether a mask has a one among its n lowest bits.
@@ -75,4 +75,15 @@ pub fn cleared(n: u32, h: Pauli, p: Pauli) -> Pauli
         return p.product(h);
     }
     p
+}
+
+// The same Pauli with its phase 0 to 3.
+pub fn modulo4(p: Pauli) -> Pauli
+    ensures { λ r. ⌜ r ≡ modulo4 p ⌝ }
+{
+    Pauli {
+        p: p.p % 4,
+        a: p.a,
+        b: p.b,
+    }
 }

@@ -10,14 +10,14 @@ use Rattle.pauli.specs.declared.Pauli.{Pauli}
 use Rattle.pauli.specs.Product.{identity, modulo4, sameMasks}
 use Rattle.code_record.specs.Record.{rowRoom}
 use Rattle.code_record.proofs.Filled.{length-filled}
-use Rattle.stabilizer.specs.Canonical.{pivot, cleared, reduced, reducesToIdentity, insertByPivot, added}
-use Rattle.stabilizer.proofs.Echelon.{modulo4-masks}
+use Rattle.stabilizer.specs.Canonical.{cleared, reduced, reducesToIdentity, insertByPivot, added}
+use Rattle.stabilizer.proofs.Echelon.{Spread, modulo4-masks, rows-cleared, added-spread}
 use Rattle.stabilizer.proofs.FirstRows.{taken-at, taken-end}
 use Rattle.reduced_rows.specs.declared.ReducedRows.{ReducedRows}
 use Rattle.reduced_rows.specs.Rows.{rowsIn, reducedOf}
 use Rattle.reduced_rows.proofs.Rows.{rows-of, reduced-at, reduced-end}
-use Rattle.elimination_step.proofs.Placing.{Placing, placing-none}
 use Rattle.independent_rows.specs.Rows.{independentRows}
+use Rattle.independent_rows.proofs.Placing.{Clearing, clearing-none}
 
 -- ---- one row more
 
@@ -72,10 +72,11 @@ module _ (n : ℕ) (rows : List Pauli) (count : ℕ) where
     pub sofar : List Pauli
     pub held : hs ≡ reducedOf n sofar
     pub sized : length sofar ≡ place
+    pub spread : Spread n sofar
     pub left : independentRows n sofar (drop place (take count rows)) ≡ independentRows n [] (take count rows)
 
   pub added-none : {hs : ReducedRows} → hs ≡ reducedOf n [] → Added 0 hs
-  added-none e = record { sofar = []; held = e; sized = refl; left = refl }
+  added-none e = record { sofar = []; held = e; sized = refl; spread = tt; left = refl }
 
   module _ {place : ℕ} {hs : ReducedRows} (s : Added place hs) where
     pub added-count : hs .count ≡ place
@@ -89,13 +90,10 @@ module _ (n : ℕ) (rows : List Pauli) (count : ℕ) where
     rows-are : rowsIn hs ≡ s .sofar
     rows-are = ap rowsIn (s .held) ∙ rows-of n (s .sofar)
 
-    -- q is put in its place among the rows: at first it is carried, and none is passed.
-    pub added-placing : (first : ℕ) (q : Pauli) → first ≡ pivot n q → place < rowRoom
-        → Placing n first q (insertByPivot n q (map (cleared n q) (rowsIn hs))) place 0
-        (record { here = q; carried = q; placed = false }) hs
-    added-placing first q found few =
-        placing-none n first q (rowsIn hs) found (s .held ∙ ap (reducedOf n) (sym rows-are))
-        (ap length rows-are ∙ s .sized) few
+    pub added-clearing : (q : Pauli) → place < rowRoom → Clearing n q (rowsIn hs) place 0 hs
+    added-clearing q few =
+        clearing-none n q (rowsIn hs) place few (ap length rows-are ∙ s .sized)
+        (s .held ∙ ap (reducedOf n) (sym rows-are))
 
     pub added-end : (count ≤ place) ⊎ (length rows ≤ place) → hs ≡ reducedOf n (independentRows n [] (take count rows))
     unfolding independentRows
@@ -125,6 +123,11 @@ module _ (n : ℕ) (rows : List Pauli) (count : ℕ) where
           ∙ ends-here n (s .sofar) (getD rows place identity) (drop (place + 1) (take count rows)) (masks phase))
           ∙ s .left)
 
+      -- The rows that it clears stay apart.
+      pub added-apart : {q : Pauli} → q ≡ modulo4 left → Spread n (map (cleared n q) (rowsIn hs))
+      added-apart phased =
+          rw (phased, left-is, rows-are) (rows-cleared n (s .sofar) (getD rows place identity) (s .spread))
+
       -- What is left is put in its place among the rows.
       pub added-more : sameMasks left identity ≡ false → {q : Pauli} → q ≡ modulo4 left → {longer : ReducedRows}
           → longer .count ≡ place + 1 → longer ≡ reducedOf n (insertByPivot n q (map (cleared n q) (rowsIn hs)))
@@ -140,6 +143,7 @@ module _ (n : ℕ) (rows : List Pauli) (count : ℕ) where
             sofar = added n (s .sofar) P;
             held = held;
             sized = sym (ap (λ r. r .count) held) ∙ counted;
+            spread = added-spread n (s .sofar) P (s .spread);
             left =
                 sym (ap (independentRows n (s .sofar)) here
                 ∙ goes-on n (s .sofar) P (drop (place + 1) (take count rows)) (masks new))

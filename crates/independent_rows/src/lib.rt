@@ -2,10 +2,8 @@
 use code_record::ROW_ROOM;
 use columns::cleared;
 use columns::is_phase;
+use columns::modulo4;
 use columns::pivot;
-use elimination_step::Passed;
-use elimination_step::modulo4;
-use elimination_step::pass;
 use pauli::Pauli;
 use reduced_rows::ReducedRows;
 ghost use mathlib.Core.List.{[]};
@@ -32,29 +30,24 @@ pub fn independent_rows(n: u32, rows: [Pauli; ROW_ROOM], count: usize) -> Reduce
         if is_phase(left) {
             return reduced;
         }
-        // They are cleared by it, and it is put in its place among them.
+        // They are cleared by it.
         left = modulo4(left);
-        let first = pivot(n, left);
-        let mut step = Passed {
-            here: left,
-            carried: left,
-            placed: false,
-        };
         at = 0;
         while at < place {
-            step = pass(
-                n,
-                first,
-                step.placed,
-                step.carried,
-                cleared(n, left, reduced.rows[at]),
-            );
-            let here = step.here;
-            reduced.rows[at] = here;
+            reduced.rows[at] = cleared(n, left, reduced.rows[at]);
             at += 1;
         }
-        let last = step.carried;
-        reduced.rows[place] = last;
+        // It is put in its place: those whose first ones come behind its own move up, the last one first.
+        let first = pivot(n, left);
+        while at > 0 {
+            let last = reduced.rows[at - 1];
+            if pivot(n, last) <= first {
+                break;
+            }
+            reduced.rows[at] = last;
+            at -= 1;
+        }
+        reduced.rows[at] = left;
         place += 1;
         reduced.count = place;
     }

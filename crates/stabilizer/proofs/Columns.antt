@@ -232,6 +232,10 @@ module _ (n : ℕ) where
   one-behind-pivot P c one =
       elim (decLt c (pivot n P)) [ yes h ↦ absurd (omega (arith, before-pivot P c h)) | no h ↦ omega arith ]
 
+  pub one-inside : (P : Pauli) (c : ℕ) → column n P c ≡ 1 → c < 2 * n
+  one-inside P c one =
+      elim (decLt c (2 * n)) [ yes h ↦ h | no h ↦ absurd (omega (arith, column-outside P c (omega arith))) ]
+
   pub pivot-first : (P : Pauli) (c : ℕ) → column n P c ≡ 1 → ((j : ℕ) → j < c → column n P j ≡ 0) → pivot n P ≡ c
   unfolding pivot column
   pivot-first P c one zeros = first-unique (columns n P) c (omega arith) zeros

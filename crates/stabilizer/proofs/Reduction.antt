@@ -15,8 +15,9 @@ use Rattle.stabilizer.specs.Canonical.{canonicalGenerators}
 use Rattle.stabilizer.specs.Group.{productOf}
 use Rattle.stabilizer.proofs.All.{All, all-map, all-every, all-append, all-mapped, from-last}
 use Rattle.stabilizer.proofs.Columns.{column-masks}
-use Rattle.stabilizer.proofs.Echelon.{OnQubits, Echelon, cleared-cases, reduced-clear, clear-selection}
-use Rattle.stabilizer.proofs.Echelon.{all-inserted, modulo4-masks, added-cases, added-on-qubits, added-echelon}
+use Rattle.stabilizer.proofs.Echelon.{OnQubits, Echelon, echelon-none, cleared-cases, reduced-clear}
+use Rattle.stabilizer.proofs.Echelon.{clear-selection, all-inserted, modulo4-masks, added-cases}
+use Rattle.stabilizer.proofs.Echelon.{added-on-qubits, added-echelon}
 use Rattle.stabilizer.proofs.Generated.{modulo4-modulo4, View, phaseAside, masksOf, cancelled-r, brought-r}
 use Rattle.stabilizer.proofs.Generated.{Commute, Closed, Generated}
 use Rattle.stabilizer.proofs.Generated.{generated-identity, generated-as, generated-skip, generated-take}
@@ -212,7 +213,7 @@ module _ (n : ℕ) where
   canonical-form : (rows : List Pauli) → OnQubits n rows
       → OnQubits n (canonicalGenerators n rows) × Echelon n (canonicalGenerators n rows)
   unfolding canonicalGenerators
-  canonical-form = from-last Form (λ q. (tt, tt)) more
+  canonical-form = from-last Form (λ q. (tt, echelon-none n)) more
     where
       Form : List Pauli → Type 0
       Form rows = OnQubits n rows → OnQubits n (canonicalGenerators n rows) × Echelon n (canonicalGenerators n rows)
@@ -306,7 +307,7 @@ module _ (n : ℕ) where
 
           zeros : (R .a ≡ 0) × (R .b ≡ 0)
           zeros = clear-selection n hs e selection
-              (all-map (λ h zero. columns (pivot n h) ∙ zero) hs (reduced-clear n hs P e))
+              (all-map (λ h zero. columns (pivot n h) ∙ zero) hs (reduced-clear n hs P (e .spread)))
 
   pub canonical-decides : (rows : List Pauli) → OnQubits n rows → (P : Pauli)
       → (reducesToIdentity n (canonicalGenerators n rows) P ≡ true) ↔ Generated phaseAside rows P

@@ -1,8 +1,8 @@
 -- The phase is brought to 0 to 3, and the masks stay.
 use mathlib.Core.Path.{refl}
 use Rattle.pauli.specs.Product.{modulo4}
-use Rattle.elimination_step.proofs.modulo4.Statement.{statement}
-use Rattle.elimination_step.proofs.modulo4.Tie as tie
+use Rattle.columns.proofs.modulo4.Statement.{statement}
+use Rattle.columns.proofs.modulo4.Tie as tie
 
 returns : tie.Need-returns
 unfolding modulo4
