@@ -1,2 +1,4 @@
+pub mod AtOnce
+pub mod RowSums
 pub mod LettersLeft
 pub mod LogicalErrors

@@ -118,7 +118,7 @@ module _ (n : ℕ) where
       (λ e. let other = eqb-false b 1 e in none (omega (arith, column-lt n P (pivot n h))))
 
   -- It changes no column in which h has no one, and leaves none in that of h's pivot.
-  cleared-keeps : (h P : Pauli) (c : ℕ) → column n h c ≡ 0 → column n (cleared n h P) c ≡ column n P c
+  pub cleared-keeps : (h P : Pauli) (c : ℕ) → column n h c ≡ 0 → column n (cleared n h P) c ≡ column n P c
   cleared-keeps h P c z =
       cleared-cases (λ Q. column n Q c ≡ column n P c) h P
       (λ one. omega (arith, column-product n P h c, column-lt n P c)) (λ none. refl)

@@ -100,7 +100,7 @@ in-block : (a b : ℕ) → sideBySide a b ≡ b * 2 ^ 32 + a % 2 ^ 32
 unfolding sideBySide
 in-block a b = omega arith
 
-side-by-side-sums : (a b c d : ℕ)
+pub side-by-side-sums : (a b c d : ℕ)
     → sideBySide (bitXor a c) (bitXor b d) ≡ bitXor (sideBySide a b) (sideBySide c d)
 side-by-side-sums a b c d =
     in-block (bitXor a c) (bitXor b d) ∙ ap (λ (x : ℕ). bitXor b d * 2 ^ 32 + x) (xor-mod a c 32)
@@ -130,20 +130,6 @@ remainder-sums n hs P Q R sums =
 pub remainder-is-additive : RemainderIsAdditive
 unfolding product
 remainder-is-additive n hs P Q = remainder-sums n hs P Q (product P Q) (record { a = refl; b = refl })
-
--- That of I is 0, as I is its own square.
-pub remainder-identity : (n : ℕ) (hs : List Pauli) → remainderWord n hs identity ≡ 0
-remainder-identity n hs =
-    remainder-sums n hs identity identity identity (record { a = refl; b = refl })
-    ∙ xor-self (remainderWord n hs identity)
-
--- It depends on the masks of the Pauli alone, since I adds nothing.
-pub remainder-of-masks : (n : ℕ) (hs : List Pauli) (P Q : Pauli) → P .a ≡ Q .a → P .b ≡ Q .b
-    → remainderWord n hs P ≡ remainderWord n hs Q
-remainder-of-masks n hs P Q a b =
-    remainder-sums n hs Q identity P
-    (record { a = a ∙ sym (xor-zero-r (Q .a)); b = b ∙ sym (xor-zero-r (Q .b)) })
-    ∙ ap (bitXor (remainderWord n hs Q)) (remainder-identity n hs) ∙ xor-zero-r (remainderWord n hs Q)
 
 -- ---- members
 
