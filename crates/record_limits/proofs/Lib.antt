@@ -1,2 +1,3 @@
 pub mod RowLimits
+pub mod Passing
 pub mod JoinedTests

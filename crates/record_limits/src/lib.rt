@@ -3,14 +3,14 @@
 use code_record::Code;
 use code_record::MOST_DISTANCE;
 use code_record::MOST_QUBITS;
-use code_record::ROW_ROOM;
 use letters::Sign;
 use pauli::Pauli;
+use unused_rows::are_unused;
+ghost use mathlib.Core.Bool.{_&&_};
 ghost use mathlib.Core.Path.{_≡_};
 ghost use Prim.Native.Nat.{_≤_};
-ghost use Rattle.pauli.specs.Product.{identity, samePauli};
-ghost use Rattle.code_record.specs.Record.{mostQubits};
-ghost use Rattle.code_record.specs.Record.{between, onQubits, isRow, isClaim, areRows, withinLimits};
+ghost use Rattle.code_record.specs.Record.{mostQubits, mostDistance, mostGenerators};
+ghost use Rattle.code_record.specs.Record.{between, onQubits, isRow, isClaim, withinLimits};
 
 fn between(low: usize, high: usize, m: usize) -> bool
     ensures { λ r. ⌜ r ≡ between low high m ⌝ }
@@ -43,58 +43,55 @@ fn is_claim(p: Pauli, n: usize) -> bool
     on_qubits(p, n) && p.has_sign(Sign::Plus)
 }
 
-// Whether it is +I.
-fn is_identity(p: Pauli) -> bool
-    ensures { λ r. ⌜ r ≡ samePauli identity p ⌝ }
+// Whether the numbers of a record are in their ranges.
+fn numbers_within(n: usize, r: usize, d: usize) -> bool
+    ensures { λ q. ⌜ q ≡ (between 2 mostQubits n && between 1 (mostGenerators n) r && between 1 mostDistance d) ⌝ }
 {
-    p.p % 4 == 0 && (p.a == 0 && p.b == 0)
-}
-
-// Whether the first `count` rows of a family are rows of n qubits, and the others +I. The family's array is copied once
-// for a call.
-fn are_rows(rows: [Pauli; ROW_ROOM], n: usize, count: usize) -> bool
-    requires { ⌜ n ≤ mostQubits ⌝ }
-    ensures { λ r. ⌜ r ≡ areRows n count rows ⌝ }
-{
-    let mut place: usize = 0;
-    while place < ROW_ROOM {
-        let p = rows[place];
-        if place < count {
-            if !is_row(p, n) {
-                return false;
-            }
-        } else if !is_identity(p) {
-            return false;
-        }
-        place += 1;
+    if !between(2, MOST_QUBITS, n) {
+        return false;
     }
-    true
+    if !between(1, code_record::most_generators(n), r) {
+        return false;
+    }
+    between(1, MOST_DISTANCE, d)
 }
 
 // Whether a record is within its limits.
 pub fn within_limits(code: Code) -> bool
     ensures { λ r. ⌜ r ≡ withinLimits code ⌝ }
 {
-    if !between(2, MOST_QUBITS, code.n) {
+    if !numbers_within(code.n, code.r, code.d) {
         return false;
     }
-    if !between(1, code_record::most_generators(code.n), code.r) {
-        return false;
-    }
-    if !between(1, MOST_DISTANCE, code.d) {
-        return false;
-    }
-    let g = code.g;
-    if !are_rows(g, code.n, code.r) {
-        return false;
+    let one = Pauli::identity();
+    let mut g = code.g;
+    let mut place: usize = 0;
+    while place < code.r {
+        let p = g[place];
+        if !is_row(p, code.n) {
+            return false;
+        }
+        g[place] = one;
+        place += 1;
     }
     let k = code_record::pair_count(code.n, code.r);
-    let x = code.x;
-    if !are_rows(x, code.n, k) {
-        return false;
+    let mut x = code.x;
+    let mut z = code.z;
+    place = 0;
+    while place < k {
+        let p = x[place];
+        if !is_row(p, code.n) {
+            return false;
+        }
+        x[place] = one;
+        let q = z[place];
+        if !is_row(q, code.n) {
+            return false;
+        }
+        z[place] = one;
+        place += 1;
     }
-    let z = code.z;
-    if !are_rows(z, code.n, k) {
+    if !are_unused(g, x, z) {
         return false;
     }
     is_claim(code.w, code.n)

@@ -1,167 +1,245 @@
--- Whether a record is within its limits: each limit is tried in turn, and the first that is broken decides. Behind each
--- that holds, `code..` is the record and `held..` what the test says; `told..` puts the count that a test was given in
--- the words of the definitions.
-use mathlib.Core.Bool.{true}
-use mathlib.Core.Path.{_≡_, ap, _∙_}
-use Prim.Native.Nat.{_≤_}
+-- Whether a record is within its limits: its numbers, then its used rows, family by family, then its unused rows, then
+-- w. The first test that fails decides.
+use mathlib.Core.Bool.{Bool, true, _&&_}
+use mathlib.Core.List.{List}
+use mathlib.Core.Path.{_≡_, ap, ap₂, sym, _∙_}
+use Prim.Native.Nat.{ℕ, _-_, _<_, _≤_}
+use native.Mathlib.Omega.{arith}
+use Rattle.pauli.specs.declared.Pauli.{Pauli}
 use Rattle.code_record.specs.declared.Code.{Code}
-use Rattle.code_record.specs.Record.{mostQubits, mostDistance, mostGenerators, logicalCount, between, areRows}
-use Rattle.code_record.proofs.Limits.{between-bounds}
+use Rattle.code_record.specs.Record.{rowRoom, mostQubits, mostDistance, mostGenerators, pairCount, logicalCount}
+use Rattle.code_record.specs.Record.{between, areRows}
+use Rattle.code_record.proofs.ArrayLengths.{sized-of}
+use Rattle.code_record.proofs.Limits.{both, between-bounds}
 use Rattle.code_record.proofs.Tests.{passed, failed}
-use Rattle.record_limits.proofs.JoinedTests.{outside, claim-decides}
+use Rattle.unused_rows.specs.Unused.{areIdentities}
+use Rattle.record_limits.proofs.JoinedTests.{outside, numbers-outside, families-outside, claim-decides}
+use Rattle.record_limits.proofs.Passing.{Passing, passing-none, passing-all, passing-fails}
+use Rattle.record_limits.proofs.Passing.{passing-more}
 use borrow.Author.Needs.{needs}
 use Rattle.record_limits.proofs.within_limits.Statement.{statement}
 use Rattle.record_limits.proofs.within_limits.Tie as tie
 
--- ---- n
+abbrev Inv-loop : tie.InvT-loop
+Inv-loop code one g₀ place₀ g place = Passing (code .n) (code .r) (code .g) place g
 
-abbrev codeN : tie.Else1 → Code
-codeN c = c .before .before .args .code
+abbrev μ-loop : tie.MeasureT-loop
+μ-loop code one g₀ place₀ g place = code .r - place
 
-heldN : (c : tie.Else1) → between 2 mostQubits (codeN c .n) ≡ true
-heldN c = passed (c .before .between .ensures) (c .if1 .left)
+abbrev Inv-loop2 : tie.InvT-loop2
+Inv-loop2 code one g place₀ k x₀ z₀ place x z =
+    Passing (code .n) k (code .x) place x × Passing (code .n) k (code .z) place z
 
-most : (c : tie.Else1) → codeN c .n ≤ mostQubits
-most c = between-bounds _ _ _ (heldN c) .1
+abbrev μ-loop2 : tie.MeasureT-loop2
+μ-loop2 code one g place₀ k x₀ z₀ place x z = k - place
 
--- ---- r
+-- ---- the numbers
 
-toldR : (c : tie.After-between2)
-    → c .between2 .result ≡ between 1 (mostGenerators (codeN (c .before .before) .n)) (codeN (c .before .before) .r)
-toldR c =
-    let given : c .between2 .result ≡ between 1 (c .before .most-generators .result) (codeN (c .before .before) .r) =
-    c .between2 .ensures in
-    given ∙ ap (λ most. between 1 most (codeN (c .before .before) .r)) (c .before .most-generators .ensures)
+abbrev At1 : Type 0
+At1 = tie.Else1 Inv-loop μ-loop Inv-loop2 μ-loop2
 
-abbrev nOfR : tie.Else2 → tie.Else1
-nOfR c = c .before .before .before
+abbrev codeOf1 : At1 → Code
+codeOf1 c = c .before .before .args .code
 
-abbrev codeR : tie.Else2 → Code
-codeR c = codeN (nOfR c)
+numbers-hold : (c : At1)
+    → (between 2 mostQubits (codeOf1 c .n) && between 1 (mostGenerators (codeOf1 c .n)) (codeOf1 c .r)
+    && between 1 mostDistance (codeOf1 c .d)) ≡ true
+numbers-hold c = passed (c .before .numbers-within .ensures) (c .if1 .left)
 
-heldR : (c : tie.Else2) → between 1 (mostGenerators (codeR c .n)) (codeR c .r) ≡ true
-heldR c = passed (toldR (c .before)) (c .if2 .left)
-
--- ---- d
-
-abbrev rOfD : tie.Else3 → tie.Else2
-rOfD c = c .before .before
-
-abbrev codeD : tie.Else3 → Code
-codeD c = codeR (rOfD c)
-
-heldD : (c : tie.Else3) → between 1 mostDistance (codeD c .d) ≡ true
-heldD c = passed (c .before .between3 .ensures) (c .if3 .left)
+-- What a need asks for: the qubits, and that the used rows are fewer than an array has.
+sizes : (c : At1) → (codeOf1 c .n ≤ mostQubits) × (codeOf1 c .r ≤ rowRoom) × (logicalCount (codeOf1 c) ≤ rowRoom)
+unfolding mostGenerators logicalCount pairCount
+sizes c =
+    let nr = both _ _ (both _ _ (numbers-hold c) .0) in
+    let n = between-bounds _ _ _ (nr .0) in
+    let r = between-bounds _ _ _ (nr .1) in
+    omega arith
 
 -- ---- the g rows
 
-abbrev dOfG : tie.Else4 → tie.Else3
-dOfG c = c .before .before .before
+abbrev AtG : Type 0
+AtG = tie.At-loop Inv-loop μ-loop Inv-loop2 μ-loop2
 
-abbrev codeG : tie.Else4 → Code
-codeG c = codeD (dOfG c)
+abbrev ofG : AtG → At1
+ofG c = c .before .before .before
 
-heldG : (c : tie.Else4) → areRows (codeG c .n) (codeG c .r) (codeG c .g) ≡ true
-heldG c = passed (c .before .are-rows .ensures) (c .if4 .left)
+-- Behind the test of a row.
+module _ (c : tie.After-is-row Inv-loop μ-loop Inv-loop2 μ-loop2) where
+  abbrev atG : AtG
+  atG = c .before .before .before .before
 
--- ---- the x rows
+  few-g : atG .loop .place < codeOf1 (ofG atG) .r
+  few-g = c .before .before .if2 .taken
 
-abbrev codeK : tie.After-pair-count → Code
-codeK c = codeG (c .before)
+-- The array decides, where all used rows have passed.
+decidesG : (c : tie.Else2 Inv-loop μ-loop Inv-loop2 μ-loop2)
+    → let at = c .before .before in
+    let code = codeOf1 (ofG at) in
+    areRows (code .n) (code .r) (code .g) ≡ areIdentities (at .loop .g)
+decidesG c = passing-all _ _ _ (c .before .before .loop .inv) (c .if2 .left)
 
-toldX : (c : tie.After-are-rows2)
-    → let code = codeK (c .before .before) in c .are-rows2 .result ≡ areRows (code .n) (logicalCount code) (code .x)
+-- ---- the x and z rows
+
+abbrev AtXZ : Type 0
+AtXZ = tie.At-loop2 Inv-loop μ-loop Inv-loop2 μ-loop2
+
+abbrev behindG : AtXZ → tie.Else2 Inv-loop μ-loop Inv-loop2 μ-loop2
+behindG c = c .before .before .before .before
+
+abbrev ofXZ : AtXZ → At1
+ofXZ c = ofG (behindG c .before .before)
+
+abbrev pairs : AtXZ → ℕ
+pairs c = c .before .before .before .pair-count .result
+
+pairs-read : (c : tie.After-pair-count Inv-loop μ-loop Inv-loop2 μ-loop2)
+    → c .pair-count .result ≡ logicalCount (codeOf1 (ofG (c .before .before .before)))
 unfolding logicalCount
-toldX c =
-    let code = codeK (c .before .before) in
-    c .are-rows2 .ensures ∙ ap (λ k. areRows (code .n) k (code .x)) (c .before .before .pair-count .ensures)
+pairs-read c = c .pair-count .ensures
 
-abbrev gOfX : tie.Else5 → tie.Else4
-gOfX c = c .before .before .before .before
+pairs-are : (c : AtXZ) → pairs c ≡ logicalCount (codeOf1 (ofXZ c))
+pairs-are c = pairs-read (c .before .before .before)
 
-abbrev codeX : tie.Else5 → Code
-codeX c = codeG (gOfX c)
+-- What holds of so many rows as there are pairs holds of the logicals.
+told : (c : AtXZ) (rows : List Pauli) {t : Bool} → let n = codeOf1 (ofXZ c) .n in
+    areRows n (pairs c) rows ≡ t → areRows n (logicalCount (codeOf1 (ofXZ c))) rows ≡ t
+told c rows e = ap (λ (k : ℕ). areRows (codeOf1 (ofXZ c) .n) k rows) (sym (pairs-are c)) ∙ e
 
-heldX : (c : tie.Else5) → areRows (codeX c .n) (logicalCount (codeX c)) (codeX c .x) ≡ true
-heldX c = passed (toldX (c .before)) (c .if5 .left)
+-- Behind the test of an x row, and of the z row at the same place.
+module _ (c : tie.After-is-row2 Inv-loop μ-loop Inv-loop2 μ-loop2) where
+  abbrev atX : AtXZ
+  atX = c .before .before .before
 
--- ---- the z rows
+  few-x : atX .loop2 .place < pairs atX
+  few-x = c .before .before .loop2-test .taken
 
-toldZ : (c : tie.After-are-rows3)
-    → let code = codeX (c .before .before) in c .are-rows3 .result ≡ areRows (code .n) (logicalCount code) (code .z)
-unfolding logicalCount
-toldZ c =
-    let x = c .before .before in
-    let code = codeX x in
-    c .are-rows3 .ensures ∙ ap (λ k. areRows (code .n) k (code .z)) (x .before .before .before .pair-count .ensures)
+module _ (c : tie.After-is-row3 Inv-loop μ-loop Inv-loop2 μ-loop2) where
+  abbrev xOf : tie.Else4 Inv-loop μ-loop Inv-loop2 μ-loop2
+  xOf = c .before .before
 
-abbrev xOfZ : tie.Else6 → tie.Else5
-xOfZ c = c .before .before .before
+-- Where all used rows have passed.
+module _ (c : tie.After-are-unused Inv-loop μ-loop Inv-loop2 μ-loop2) where
+  abbrev atEnd : AtXZ
+  atEnd = c .before .before
 
-abbrev codeZ : tie.Else6 → Code
-codeZ c = codeX (xOfZ c)
+  abbrev codeAtEnd : Code
+  codeAtEnd = codeOf1 (ofXZ atEnd)
 
-heldZ : (c : tie.Else6) → areRows (codeZ c .n) (logicalCount (codeZ c)) (codeZ c .z) ≡ true
-heldZ c = passed (toldZ (c .before)) (c .if6 .left)
+  families-are : c .are-unused .result
+      ≡ (areRows (codeAtEnd .n) (codeAtEnd .r) (codeAtEnd .g)
+      && areRows (codeAtEnd .n) (logicalCount codeAtEnd) (codeAtEnd .x)
+      && areRows (codeAtEnd .n) (logicalCount codeAtEnd) (codeAtEnd .z))
+  families-are =
+      let done = c .before .loop2-test .left in
+      let x = told atEnd (codeAtEnd .x) (passing-all _ _ _ (atEnd .loop2 .inv .0) done) in
+      let z = told atEnd (codeAtEnd .z) (passing-all _ _ _ (atEnd .loop2 .inv .1) done) in
+      c .are-unused .ensures
+      ∙ ap₂ (λ a b. a && b) (ap₂ (λ a b. a && b) (sym (decidesG (behindG atEnd))) (sym x)) (sym z)
 
 -- ---- the needs
 
-returns : tie.Need-returns
-returns c = outside _ (failed (c .before .between .ensures) (c .if1 .taken)) (λ tests. tests .qubits)
+loop-holds : tie.Need-loop-holds Inv-loop μ-loop Inv-loop2 μ-loop2
+loop-holds c =
+    let one = c .before .before in
+    passing-none _ _ _ (sized-of (codeOf1 one) (one .before .before .good .0) .roomG) (sizes one .1)
 
-returns-2 : tie.Need-returns-2
-returns-2 c = outside _ (failed (toldR (c .before)) (c .if2 .taken)) (λ tests. tests .generatorCount)
+returns : tie.Need-returns Inv-loop μ-loop Inv-loop2 μ-loop2
+returns c = numbers-outside _ (failed (c .before .numbers-within .ensures) (c .if1 .taken))
 
-returns-3 : tie.Need-returns-3
-returns-3 c = outside _ (failed (c .before .between3 .ensures) (c .if3 .taken)) (λ tests. tests .distance)
+returns-2 : tie.Need-returns-2 Inv-loop μ-loop Inv-loop2 μ-loop2
+returns-2 c =
+    let row = c .before in
+    outside _ (passing-fails _ _ _ (atG row .loop .inv) (few-g row) (failed (row .is-row .ensures) (c .if3 .taken)))
+    (λ tests. tests .generatorRows)
 
-are-rows-requires : tie.Need-are-rows-requires
-are-rows-requires c κs = most (nOfR (rOfD (c .before)))
+loop-again : tie.Need-loop-again Inv-loop μ-loop Inv-loop2 μ-loop2
+loop-again c =
+    let row = c .before in
+    passing-more _ _ _ (atG row .loop .inv) (few-g row) (passed (row .is-row .ensures) (c .if3 .left))
+    (atG row .before .before .identity .ensures)
 
-returns-4 : tie.Need-returns-4
-returns-4 c = outside _ (failed (c .before .are-rows .ensures) (c .if4 .taken)) (λ tests. tests .generatorRows)
+loop2-holds : tie.Need-loop2-holds Inv-loop μ-loop Inv-loop2 μ-loop2
+loop2-holds c =
+    let g = c .before .before .before in
+    let one = ofG (g .before .before) in
+    let sized = sized-of (codeOf1 one) (one .before .before .good .0) in
+    let few : c .before .before .pair-count .result ≤ rowRoom =
+    omega (arith, sizes one, pairs-read (c .before .before)) in
+    (passing-none _ _ _ (sized .roomX) few, passing-none _ _ _ (sized .roomZ) few)
 
-are-rows-requires-2 : tie.Need-are-rows-requires-2
-are-rows-requires-2 c κs = most (nOfR (rOfD (dOfG (c .before .before))))
+returns-3 : tie.Need-returns-3 Inv-loop μ-loop Inv-loop2 μ-loop2
+returns-3 c =
+    let row = c .before in
+    let fails =
+    passing-fails _ _ _ (atX row .loop2 .inv .0) (few-x row) (failed (row .is-row2 .ensures) (c .if4 .taken)) in
+    outside _ (told (atX row) _ fails) (λ tests. tests .xRows)
 
-returns-5 : tie.Need-returns-5
-returns-5 c = outside _ (failed (toldX (c .before)) (c .if5 .taken)) (λ tests. tests .xRows)
+returns-4 : tie.Need-returns-4 Inv-loop μ-loop Inv-loop2 μ-loop2
+returns-4 c =
+    let row = c .before in
+    let x = xOf row .before in
+    let fails = passing-fails _ _ _ (atX x .loop2 .inv .1) (few-x x) (failed (row .is-row3 .ensures) (c .if5 .taken)) in
+    outside _ (told (atX x) _ fails) (λ tests. tests .zRows)
 
-are-rows-requires-3 : tie.Need-are-rows-requires-3
-are-rows-requires-3 c κs = most (nOfR (rOfD (dOfG (gOfX (c .before)))))
+loop2-again : tie.Need-loop2-again Inv-loop μ-loop Inv-loop2 μ-loop2
+loop2-again c =
+    let row = c .before in
+    let x = xOf row .before in
+    let at = atX x in
+    let one = (behindG at) .before .before .before .before .identity .ensures in (
+      passing-more _ _ _ (at .loop2 .inv .0) (few-x x) (passed (x .is-row2 .ensures) (xOf row .if4 .left)) one,
+      passing-more _ _ _ (at .loop2 .inv .1) (few-x x) (passed (row .is-row3 .ensures) (c .if5 .left)) one,
+    )
 
-returns-6 : tie.Need-returns-6
-returns-6 c = outside _ (failed (toldZ (c .before)) (c .if6 .taken)) (λ tests. tests .zRows)
+returns-5 : tie.Need-returns-5 Inv-loop μ-loop Inv-loop2 μ-loop2
+returns-5 c = families-outside _ (failed (families-are (c .before)) (c .if6 .taken))
 
-is-claim-requires : tie.Need-is-claim-requires
-is-claim-requires c κs = most (nOfR (rOfD (dOfG (gOfX (xOfZ c)))))
-
-returns-7 : tie.Need-returns-7
-returns-7 c =
-    let z = c .before in
-    let x = xOfZ z in
-    let g = gOfX x in
-    let d = dOfG g in
-    let r = rOfD d in
-    c .is-claim .ensures ∙ claim-decides (codeZ z) (heldN (nOfR r)) (heldR r) (heldD d) (heldG g) (heldX x) (heldZ z)
+returns-6 : tie.Need-returns-6 Inv-loop μ-loop Inv-loop2 μ-loop2
+returns-6 c =
+    let unused = c .before .before in
+    c .is-claim .ensures
+    ∙ claim-decides (codeAtEnd unused) (numbers-hold (ofXZ (atEnd unused)))
+    (passed (families-are unused) (c .before .if6 .left))
 
 pub within-limits-spec : {M : Type 1} → statement M
 within-limits-spec =
     tie.close
     (tie.spec
+    Inv-loop
+    μ-loop
+    Inv-loop2
+    μ-loop2
     (λ c κs. search needs)
     returns
     (λ c κs. search needs)
-    (λ c κs. search needs)
+    loop-holds
+    (λ c. search needs)
+    (λ c. search needs)
+    (λ c κs. sizes (ofG (c .before .before .before)) .0)
     returns-2
+    (λ c. search needs)
+    (λ c. search needs)
+    (λ c. search needs)
+    (λ c. search needs)
+    loop-again
     (λ c κs. search needs)
+    loop2-holds
+    (λ c. search needs)
+    (λ c. search needs)
+    (λ c κs. sizes (ofXZ (c .before .before)) .0)
     returns-3
-    are-rows-requires
+    (λ c. search needs)
+    (λ c. search needs)
+    (λ c. search needs)
+    (λ c. search needs)
+    (λ c κs. sizes (ofXZ (atX (c .before .before))) .0)
     returns-4
+    (λ c. search needs)
+    (λ c. search needs)
+    (λ c. search needs)
+    (λ c. search needs)
+    loop2-again
     (λ c κs. search needs)
-    are-rows-requires-2
     returns-5
-    are-rows-requires-3
-    returns-6
-    is-claim-requires
-    returns-7)
+    (λ c κs. sizes (ofXZ (atEnd (c .before))) .0)
+    returns-6)

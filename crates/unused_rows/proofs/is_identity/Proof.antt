@@ -3,9 +3,9 @@ use mathlib.Core.Path.{sym, _∙_}
 use Prim.Native.Nat.{_%_}
 use borrow.Author.Tests.{eq-eqb, ne-eqb}
 use Rattle.code_record.proofs.Tests.{and-true-l, and-false-l}
-use Rattle.record_limits.proofs.RowLimits.{same-identity}
-use Rattle.record_limits.proofs.is_identity.Statement.{statement}
-use Rattle.record_limits.proofs.is_identity.Tie as tie
+use Rattle.unused_rows.proofs.RowBits.{same-identity}
+use Rattle.unused_rows.proofs.is_identity.Statement.{statement}
+use Rattle.unused_rows.proofs.is_identity.Tie as tie
 
 returns : tie.Need-returns
 returns c =
