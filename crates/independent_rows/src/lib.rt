@@ -17,7 +17,13 @@ ghost use Rattle.independent_rows.specs.Rows.{independentRows};
 pub fn independent_rows(n: u32, rows: [Pauli; ROW_ROOM], count: usize) -> ReducedRows
     ensures { λ r. ⌜ r ≡ reducedOf n (independentRows n [] (take count rows)) ⌝ }
 {
-    let mut reduced = ReducedRows::empty(n);
+    // What a call gives back would be copied.
+    let one = Pauli::identity();
+    let mut reduced = ReducedRows {
+        n,
+        count: 0,
+        rows: [one; ROW_ROOM],
+    };
     let mut place: usize = 0;
     while place < ROW_ROOM && place < count {
         // What the rows so far leave of the next one.

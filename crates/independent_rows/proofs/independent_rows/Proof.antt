@@ -1,13 +1,14 @@
 -- Each turn adds a row: the rows so far reduce it, what is left clears them, and those behind its place move up.
 use mathlib.Core.Logic.{inl, inr, ⊎-elim}
-use mathlib.Core.Path.{_≡_, refl, sym, _∙_}
+use mathlib.Core.Path.{_≡_, refl, ap, sym, _∙_}
 use Prim.Native.Nat.{_-_, _<_}
 use native.Mathlib.Omega.{arith}
-use lib.ListN.{length, getD}
+use lib.ListN.{length, getD, replicate}
 use Rattle.pauli.specs.Product.{identity}
-use Rattle.code_record.specs.Record.{rowRoom}
+use Rattle.code_record.specs.Record.{rowRoom, filled}
 use Rattle.stabilizer.specs.Canonical.{reduced}
-use Rattle.reduced_rows.specs.Rows.{rowsIn}
+use Rattle.reduced_rows.specs.Rows.{rowsIn, reducedOf}
+use Rattle.reduced_rows.proofs.Rows.{value}
 use Rattle.independent_rows.proofs.Placing.{Clearing, clearing-more, Moving, moving-more, cleared-moving}
 use Rattle.independent_rows.proofs.Placing.{placed}
 use Rattle.independent_rows.proofs.Added.{Reducing, reducing-none, reducing-more, reducing-end}
@@ -74,7 +75,9 @@ module _ (c : tie.After-is-phase Inv-loop2 μ-loop2 Inv-loop3 μ-loop3 Inv-loop4
 -- ---- the needs
 
 loop-holds : tie.Need-loop-holds Inv-loop2 μ-loop2 Inv-loop3 μ-loop3 Inv-loop4 μ-loop4 Inv-loop μ-loop
-loop-holds c = added-none _ _ _ (c .empty .ensures)
+unfolding reducedOf filled
+loop-holds c =
+    added-none _ _ _ (ap (λ one. value (c .before .args .n) 0 (replicate rowRoom one)) (c .identity .ensures))
 
 loop2-holds : tie.Need-loop2-holds Inv-loop2 μ-loop2 Inv-loop3 μ-loop3 Inv-loop4 μ-loop4 Inv-loop μ-loop
 loop2-holds c = reducing-none _ _ _ _ (omega arith)
