@@ -38,3 +38,10 @@ module _ (fault : Option Refusal) (n : ℕ) (hs : List Pauli) where
   refusal-answered told bare known =
       ap₂ (λ answer rows. record { answer = answer; reduced = rows }) told bare
       ∙ ap (λ fault. eliminated fault n hs) (ap checkedRefusal (sym told) ∙ known)
+
+  pub passed-answered : {checked : Checked} {rows : ReducedRows} → checked ≡ Checked.Passed → rows ≡ reducedOf n hs
+      → checkedRefusal checked ≡ fault → record { answer = checked; reduced = rows } ≡ eliminated fault n hs
+  unfolding eliminated
+  passed-answered told found known =
+      ap₂ (λ answer rows. record { answer = answer; reduced = rows }) told found
+      ∙ ap (λ fault. eliminated fault n hs) (ap checkedRefusal (sym told) ∙ known)

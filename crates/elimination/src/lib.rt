@@ -13,7 +13,12 @@ ghost use mathlib.Core.List.{[]};
 ghost use mathlib.Core.Option.{none, some};
 ghost use mathlib.Core.Path.{_≡_};
 ghost use Rattle.code_record.specs.Record.{generators, generatorsAt, withinLimits};
-ghost use Rattle.stabilizer.specs.Checks.{firstFault, clash};
+ghost use Rattle.refusals.specs.declared.Checked.the-variants.{Passed};
+ghost use Rattle.refusals.specs.Refusals.{checkedRefusal};
+ghost use Rattle.stabilizer.specs.Canonical.{canonicalGenerators};
+ghost use Rattle.stabilizer.specs.Checks.{firstFault, clash, dependence};
+ghost use Rattle.reduced_rows.specs.Rows.{reducedOf};
+ghost use Rattle.independent_rows.specs.Rows.{independentRows};
 ghost use Rattle.elimination.specs.Answers.{eliminated, independence, elimination};
 
 // The answer of the checks, and beside it the canonical generators; none of them where it is a refusal.
@@ -32,29 +37,41 @@ fn refused(refusal: Refusal) -> Elimination
     }
 }
 
-// 7 and 8, over the generators of a record within limits that pass 6: where not all of them are independent, the first
-// that is not decides.
+// 7 and 8, over the generators of a record within limits that pass 6, by what their elimination gave: where not all of
+// them are independent, the first that is not decides. Where they are, what it gave are the canonical generators.
+fn dependence_of(code: Code, reduced: ReducedRows) -> Checked
+    requires { ⌜ withinLimits code ≡ true ⌝ }
+    requires { ⌜ firstFault clash [] (generatorsAt code) (generators code) ≡ none ⌝ }
+    requires { ⌜ reduced ≡ reducedOf (code .n) (independentRows (code .n) [] (generators code)) ⌝ }
+    ensures { λ r. ⌜ checkedRefusal r ≡ firstFault dependence [] (generatorsAt code) (generators code) ⌝ }
+    ensures { λ r. ⌜ (r ≡ Passed → reduced ≡ reducedOf (code .n) (canonicalGenerators (code .n) (generators code))) ⌝ }
+{
+    let place = reduced.count;
+    if place == code.r {
+        return Checked::Passed;
+    }
+    let line = code.generators_at() + place;
+    let p = code.row(Family::Generator, place);
+    let Kind::MinusIdentity = kind_of(reduced.reduce(p)) else {
+        return Checked::Refused(Refusal::DependentGenerator(line, Family::Generator));
+    };
+    Checked::Refused(Refusal::MinusIdentity(line, Family::Generator))
+}
+
+// The same, with the canonical generators. They are taken away where there is a refusal, and not made anew where there
+// is none, which would copy them.
 fn independence(code: Code) -> Elimination
     requires { ⌜ withinLimits code ≡ true ⌝ }
     requires { ⌜ firstFault clash [] (generatorsAt code) (generators code) ≡ none ⌝ }
     ensures { λ r. ⌜ r ≡ independence code ⌝ }
 {
-    let count = code.r;
     let g = code.g;
-    let reduced = independent_rows(code.n as u32, g, count);
-    let place = reduced.count;
-    if place == count {
-        return Elimination {
-            answer: Checked::Passed,
-            reduced,
-        };
+    let mut reduced = independent_rows(code.n as u32, g, code.r);
+    let answer = dependence_of(code, reduced);
+    if let Checked::Refused(_) = answer {
+        reduced = ReducedRows::empty(0);
     }
-    let line = code.generators_at() + place;
-    let p = code.row(Family::Generator, place);
-    let Kind::MinusIdentity = kind_of(reduced.reduce(p)) else {
-        return refused(Refusal::DependentGenerator(line, Family::Generator));
-    };
-    refused(Refusal::MinusIdentity(line, Family::Generator))
+    Elimination { answer, reduced }
 }
 
 // The checks of a record's generators, and the canonical generators: 15 where the record is outside its limits, then 6
