@@ -1,3 +1,4 @@
 pub mod RowLimits
 pub mod Passing
 pub mod JoinedTests
+pub mod GeneratorLimits

@@ -1,6 +1,6 @@
 -- The tests of rows as the code makes them: the masks against a shifted one, and the used rows of a family place by
 -- place.
-use mathlib.Core.Bool.{Bool, _&&_, and-assoc}
+use mathlib.Core.Bool.{Bool, true, _&&_, and-assoc}
 use mathlib.Core.List.{List, _∷_}
 use mathlib.Core.Path.{_≡_, refl, ap, _∙_}
 use Prim.Native.Nat.{ℕ, suc, _+_, _-_, _*_, _%_, _^_, _<_, _≤_}
@@ -41,3 +41,20 @@ module _ (n : ℕ) where
         let left : m - place ≡ suc (m - suc place) = omega arith in
         rw (left, add-one, drop-cons rows place identity, ← here, ← test)
         (areRows-cons-used (m - suc place) P (drop (suc place) rows))
+
+  -- The used rows alone.
+  module _ (m place : ℕ) (rows : List Pauli) (inside : place < length rows) where
+    pub row-at : place < m → {t : Bool} → isRow n (getD rows place identity) ≡ t
+        → allOf (isRow n) (take (m - place) (drop place rows))
+        ≡ (t && allOf (isRow n) (take (m - (place + 1)) (drop (place + 1) rows)))
+    row-at h test =
+        let left : m - place ≡ suc (m - suc place) = omega arith in
+        rw (left, add-one, drop-cons rows place identity, ← test)
+        (all-first (isRow n) (getD rows place identity) (take (m - suc place) (drop (suc place) rows)))
+
+  pub no-row-left : (m place : ℕ) (rows : List Pauli) → m ≤ place
+      → allOf (isRow n) (take (m - place) (drop place rows)) ≡ true
+  unfolding allOf
+  no-row-left m place rows h =
+      let none : m - place ≡ 0 = omega arith in
+      ap (λ (i : ℕ). allOf (isRow n) (take i (drop place rows))) none

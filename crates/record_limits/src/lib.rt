@@ -3,6 +3,7 @@
 use code_record::Code;
 use code_record::MOST_DISTANCE;
 use code_record::MOST_QUBITS;
+use code_record::ROW_ROOM;
 use letters::Sign;
 use pauli::Pauli;
 use unused_rows::are_unused;
@@ -11,6 +12,7 @@ ghost use mathlib.Core.Path.{_≡_};
 ghost use Prim.Native.Nat.{_≤_};
 ghost use Rattle.code_record.specs.Record.{mostQubits, mostDistance, mostGenerators};
 ghost use Rattle.code_record.specs.Record.{between, onQubits, isRow, isClaim, withinLimits};
+ghost use Rattle.record_limits.specs.Generators.{generatorsWithin};
 
 fn between(low: usize, high: usize, m: usize) -> bool
     ensures { λ r. ⌜ r ≡ between low high m ⌝ }
@@ -41,6 +43,27 @@ fn is_claim(p: Pauli, n: usize) -> bool
     ensures { λ r. ⌜ r ≡ isClaim n p ⌝ }
 {
     on_qubits(p, n) && p.has_sign(Sign::Plus)
+}
+
+// Whether n and r are in their ranges, and the first r rows are rows of n qubits.
+pub fn generators_within(n: usize, r: usize, g: [Pauli; ROW_ROOM]) -> bool
+    ensures { λ q. ⌜ q ≡ generatorsWithin n r g ⌝ }
+{
+    if !between(2, MOST_QUBITS, n) {
+        return false;
+    }
+    if !between(1, code_record::most_generators(n), r) {
+        return false;
+    }
+    let mut place: usize = 0;
+    while place < r {
+        let p = g[place];
+        if !is_row(p, n) {
+            return false;
+        }
+        place += 1;
+    }
+    true
 }
 
 // Whether the numbers of a record are in their ranges.
