@@ -1,3 +1,4 @@
 pub mod Sequence
 pub mod CheckOrder
+pub mod ReadChecks
 pub mod Numbers

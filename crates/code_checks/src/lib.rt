@@ -4,17 +4,17 @@ use claim_checks::check_claim;
 use code_record::Code;
 use distance::check_distance;
 use elimination::Elimination;
-use elimination::eliminate;
+use elimination::eliminate_rows;
 use logical_checks::check_logicals;
+use record_limits::within_limits;
 use reduced_rows::ReducedRows;
 use refusals::Checked;
+use refusals::Refusal;
 ghost use mathlib.Core.Path.{_≡_};
-ghost use Rattle.code_record.specs.Record.{qubitFault};
 ghost use Rattle.refusals.specs.Refusals.{checkedRefusal, _then_};
-ghost use Rattle.admission.specs.Logicals.{detectedFault, pairingFault};
 ghost use Rattle.claim_checks.specs.Claim.{claimFault};
 ghost use Rattle.distance.specs.Search.{distanceBy};
-ghost use Rattle.code_checks.specs.Answers.{checkedCode};
+ghost use Rattle.code_checks.specs.Answers.{laterFault, checkedRead, checkedCode};
 
 // 11 to 13, then 14.
 fn claim_and_distance(code: Code, reduced: ReducedRows, at: usize) -> Checked
@@ -31,9 +31,7 @@ fn claim_and_distance(code: Code, reduced: ReducedRows, at: usize) -> Checked
 // no sheet has so many qubits.
 fn behind_generators(code: Code, reduced: ReducedRows, at: usize) -> Checked
     ensures { λ r.
-        ⌜ checkedRefusal r
-        ≡ ((qubitFault (code .n) then detectedFault code then pairingFault code)
-        then claimFault at code reduced then distanceBy at code reduced) ⌝ }
+        ⌜ checkedRefusal r ≡ laterFault at code reduced ⌝ }
 {
     let answer = check_logicals(code);
     let Checked::Passed = answer else {
@@ -42,12 +40,14 @@ fn behind_generators(code: Code, reduced: ReducedRows, at: usize) -> Checked
     claim_and_distance(code, reduced, at)
 }
 
-// The first fault of a record whose w stands on the line `at`: 15 where it is outside its limits, then 6 to 14. Beside
-// it are the canonical generators where there is no fault, and none of them where there is one.
-pub fn check_code(code: Code, at: usize) -> Elimination
-    ensures { λ r. ⌜ r ≡ checkedCode at code ⌝ }
+// The first fault of a record that was read, whose w stands on the line `at`: 15 where its generators are outside their
+// limits, then 6 to 14. Beside it are the canonical generators where there is no fault, and none of them where there is
+// one. A reading gives no record outside its limits, so they are not asked for once more.
+pub fn check_read(code: Code, at: usize) -> Elimination
+    ensures { λ r. ⌜ r ≡ checkedRead at code ⌝ }
 {
-    let generators = eliminate(code);
+    let g = code.g;
+    let generators = eliminate_rows(code.n, code.r, g);
     let first = generators.answer;
     let Checked::Passed = first else {
         return generators;
@@ -60,4 +60,17 @@ pub fn check_code(code: Code, at: usize) -> Elimination
         };
     };
     generators
+}
+
+// The same of any record: 15 where it is outside its limits.
+pub fn check_code(code: Code, at: usize) -> Elimination
+    ensures { λ r. ⌜ r ≡ checkedCode at code ⌝ }
+{
+    if !within_limits(code) {
+        return Elimination {
+            answer: Checked::Refused(Refusal::RecordLimits),
+            reduced: ReducedRows::empty(0),
+        };
+    }
+    check_read(code, at)
 }

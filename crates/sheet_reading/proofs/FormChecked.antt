@@ -39,6 +39,14 @@ module _ (s : List ℕ) (form : LinesReading) where
   decided-by (stop refusal) e told within =
       absurd (let z : _≡_ {A = ℕ} 0 1 = cc (ap (λ x. x .answer) e) in omega arith)
 
+  within-by : (p : Parsed SheetRead) {used : ℕ} → form ≡ answered s p → form .answer ≡ Lines.Read used
+      → ((q : SheetRead) (rest : List ℕ) → p ≡ got q rest → withinLimits (q .code) ≡ true)
+      → withinLimits (form .code) ≡ true
+  unfolding answered
+  within-by (got q rest) e told within = ap (λ x. withinLimits (x .code)) e ∙ within q rest refl
+  within-by (stop refusal) e told within =
+      absurd (let z : _≡_ {A = ℕ} 0 1 = cc (ap (λ x. x .answer) e) in omega arith)
+
   module _ (known : form ≡ formReading s) where
     pub form-refused : {refusal : Refusal} → form .answer ≡ Lines.Refused refusal → refusedReading refusal ≡ readSheet s
     unfolding formReading readSheet
@@ -48,3 +56,7 @@ module _ (s : List ℕ) (form : LinesReading) where
         → readingOf (form .code) (limitsFault (form .code) then codeFault (form .«claim_at») (form .code)) ≡ readSheet s
     unfolding formReading readSheet
     checks-decide told = decided-by (readForm s) known told (read-within s)
+
+    pub form-within : {used : ℕ} → form .answer ≡ Lines.Read used → withinLimits (form .code) ≡ true
+    unfolding formReading
+    form-within told = within-by (readForm s) known told (read-within s)

@@ -1,14 +1,15 @@
 // The whole reading of a sheet that stands by itself: its lines, and then its checks.
 use admission::Admission;
 use admission::Reading;
-use code_checks::check_code;
+use code_checks::check_read;
 use code_record::Code;
 use refusals::Checked;
 use refusals::Lines;
 use refusals::Refusal;
 use sheet_end::read_form;
+ghost use mathlib.Core.Bool.{true};
 ghost use mathlib.Core.Path.{_≡_};
-ghost use Rattle.code_record.specs.Record.{limitsFault};
+ghost use Rattle.code_record.specs.Record.{withinLimits, limitsFault};
 ghost use Rattle.refusals.specs.Refusals.{_then_};
 ghost use Rattle.admission.specs.Admission.{codeFault, refusedReading, readingOf, readSheet};
 
@@ -22,11 +23,12 @@ fn refused(refusal: Refusal) -> Reading
     }
 }
 
-// What the checks make of a record whose w stands on the line `at`.
+// What the checks make of a record that was read, whose w stands on the line `at`.
 fn judged(code: Code, at: usize) -> Reading
+    requires { ⌜ withinLimits code ≡ true ⌝ }
     ensures { λ r. ⌜ r ≡ readingOf code (limitsFault code then codeFault at code) ⌝ }
 {
-    let checks = check_code(code, at);
+    let checks = check_read(code, at);
     let answer = checks.answer;
     match answer {
         Checked::Passed => Reading {

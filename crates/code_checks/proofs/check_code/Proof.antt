@@ -1,33 +1,22 @@
--- The checks in their order, each where those before it passed.
-use Rattle.code_checks.proofs.CheckOrder.{generators-refused, later-refused, later-passed}
+-- A record within its limits has the checks of one that was read; any other is refused with 15.
+use mathlib.Core.Path.{_∙_}
+use Rattle.code_record.proofs.Tests.{passed, failed}
+use Rattle.code_checks.proofs.ReadChecks.{record-outside, read-is-checked}
 use borrow.Author.Needs.{needs}
 use Rattle.code_checks.proofs.check_code.Statement.{statement}
 use Rattle.code_checks.proofs.check_code.Tie as tie
 
 returns : tie.Need-returns
 returns c =
-    let a = c .before .before .before .args in
-    generators-refused (a .at) (a .code) (c .before .before .eliminate .ensures) (c .enum-told2 .given .1)
+    record-outside _ _ (failed (c .before .before .within-limits .ensures) (c .before .if1 .taken)) (c .empty .ensures)
 
 returns-2 : tie.Need-returns-2
 returns-2 c =
-    let later = c .before in
-    let told = later .before .before .before in
-    let a = told .before .before .before .args in
-    later-refused (a .at) (a .code) (told .before .before .eliminate .ensures) (told .enum-told .given .1)
-    (later .before .before .behind-generators .result) (later .before .before .behind-generators .ensures)
-    (later .enum-told4 .given .1) (c .empty .ensures)
-
-returns-3 : tie.Need-returns-3
-returns-3 c =
-    let told = c .before .before .before in
-    let a = told .before .before .before .args in
-    later-passed (a .at) (a .code) (told .before .before .eliminate .ensures) (told .enum-told .given .1)
-    (c .before .before .behind-generators .result) (c .before .before .behind-generators .ensures)
-    (c .enum-told3 .given .1)
+    let within = c .before in
+    c .check-read .ensures
+    ∙ read-is-checked _ _ (passed (within .before .within-limits .ensures) (within .if1 .left))
 
 pub check-code-spec : {M : Type 1} → statement M
 check-code-spec =
     tie.close
-    (tie.spec (λ c κs. search needs) (λ c. search needs) (λ c. search needs) returns (λ c κs. search needs)
-    (λ c. search needs) (λ c. search needs) (λ c κs. search needs) returns-2 returns-3)
+    (tie.spec (λ c κs. search needs) (λ c κs. search needs) returns (λ c κs. search needs) returns-2)

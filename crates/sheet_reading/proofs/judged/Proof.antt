@@ -5,16 +5,18 @@ use Rattle.refusals.specs.declared.Checked.{Checked}
 use Rattle.refusals.specs.Refusals.{checkedRefusal, _then_}
 use Rattle.admission.specs.Admission.{codeFault, admitted, readingOf}
 use Rattle.code_checks.proofs.CheckOrder.{checked-fault}
+use Rattle.code_checks.proofs.ReadChecks.{read-is-checked}
 use borrow.Author.Needs.{needs}
 use Rattle.sheet_reading.proofs.judged.Statement.{statement}
 use Rattle.sheet_reading.proofs.judged.Tie as tie
 
-answered : (c : tie.After-check-code) {answer : Checked} → c .check-code .result .answer ≡ answer
+answered : (c : tie.After-check-read) {answer : Checked} → c .check-read .result .answer ≡ answer
     → let a = c .before .args in
     readingOf (a .code) (checkedRefusal answer)
     ≡ readingOf (a .code) (limitsFault (a .code) then codeFault (a .at) (a .code))
 answered c told =
-    let a = c .before .args in ap (readingOf (a .code)) (checked-fault (a .at) (a .code) (c .check-code .ensures) told)
+    let a = c .before .args in ap (readingOf (a .code))
+    (checked-fault (a .at) (a .code) (c .check-read .ensures ∙ read-is-checked (a .at) (a .code) (c .before .pre)) told)
 
 returns : tie.Need-returns
 unfolding readingOf admitted
