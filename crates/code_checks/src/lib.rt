@@ -66,11 +66,11 @@ pub fn check_read(code: Code, at: usize) -> Elimination
 pub fn check_code(code: Code, at: usize) -> Elimination
     ensures { λ r. ⌜ r ≡ checkedCode at code ⌝ }
 {
-    if !within_limits(code) {
-        return Elimination {
-            answer: Checked::Refused(Refusal::RecordLimits),
-            reduced: ReducedRows::empty(0),
-        };
+    if within_limits(code) {
+        return check_read(code, at);
     }
-    check_read(code, at)
+    Elimination {
+        answer: Checked::Refused(Refusal::RecordLimits),
+        reduced: ReducedRows::empty(0),
+    }
 }

@@ -45,14 +45,18 @@ fn is_claim(p: Pauli, n: usize) -> bool
     on_qubits(p, n) && p.has_sign(Sign::Plus)
 }
 
+// Whether n and r are in their ranges.
+fn counts_within(n: usize, r: usize) -> bool
+    ensures { λ q. ⌜ q ≡ (between 2 mostQubits n && between 1 (mostGenerators n) r) ⌝ }
+{
+    between(2, MOST_QUBITS, n) && between(1, code_record::most_generators(n), r)
+}
+
 // Whether n and r are in their ranges, and the first r rows are rows of n qubits.
 pub fn generators_within(n: usize, r: usize, g: [Pauli; ROW_ROOM]) -> bool
     ensures { λ q. ⌜ q ≡ generatorsWithin n r g ⌝ }
 {
-    if !between(2, MOST_QUBITS, n) {
-        return false;
-    }
-    if !between(1, code_record::most_generators(n), r) {
+    if !counts_within(n, r) {
         return false;
     }
     let mut place: usize = 0;
@@ -70,13 +74,7 @@ pub fn generators_within(n: usize, r: usize, g: [Pauli; ROW_ROOM]) -> bool
 fn numbers_within(n: usize, r: usize, d: usize) -> bool
     ensures { λ q. ⌜ q ≡ (between 2 mostQubits n && between 1 (mostGenerators n) r && between 1 mostDistance d) ⌝ }
 {
-    if !between(2, MOST_QUBITS, n) {
-        return false;
-    }
-    if !between(1, code_record::most_generators(n), r) {
-        return false;
-    }
-    between(1, MOST_DISTANCE, d)
+    counts_within(n, r) && between(1, MOST_DISTANCE, d)
 }
 
 // Whether a record is within its limits.

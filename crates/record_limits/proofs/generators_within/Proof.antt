@@ -7,9 +7,8 @@ use lib.ListN.{length, take, drop, getD}
 use Rattle.letters.specs.Lists.{allOf}
 use Rattle.pauli.specs.Product.{identity}
 use Rattle.code_record.specs.Record.{rowRoom, mostQubits, mostGenerators, between, isRow}
-use Rattle.code_record.proofs.Limits.{between-bounds}
-use Rattle.code_record.proofs.Tests.{passed, failed}
-use Rattle.unused_rows.proofs.InTurn.{first-decides, second-decides, third-decides}
+use Rattle.code_record.proofs.Limits.{both, between-bounds}
+use Rattle.code_record.proofs.Tests.{and-true-l, passed, failed}
 use Rattle.record_limits.specs.Generators.{generatorsWithin}
 use Rattle.record_limits.proofs.RowLimits.{row-at, no-row-left}
 use borrow.Author.Needs.{needs}
@@ -24,43 +23,30 @@ Inv-loop n r g place₀ place =
 abbrev μ-loop : tie.MeasureT-loop
 μ-loop n r g place₀ place = r - place
 
-abbrev At2 : Type 0
-At2 = tie.Else2 Inv-loop μ-loop
+abbrev At1 : Type 0
+At1 = tie.Else1 Inv-loop μ-loop
 
--- What is asked of r, in the words of the definitions.
-toldR : (c : tie.After-between2 Inv-loop μ-loop)
-    → let a = c .before .before .before .before .args in
-    c .between2 .result ≡ between 1 (mostGenerators (a .n)) (a .r)
-toldR c =
-    let a = c .before .before .before .before .args in
-    let given : c .between2 .result ≡ between 1 (c .before .most-generators .result) (a .r) = c .between2 .ensures in
-    given ∙ ap (λ most. between 1 most (a .r)) (c .before .most-generators .ensures)
+abbrev start : At1 → tie.Start Inv-loop μ-loop
+start c = c .before .before
 
-abbrev start : At2 → tie.Start Inv-loop μ-loop
-start c = c .before .before .before .before .before
+counts-hold : (c : At1) → let a = start c .args in
+    (between 2 mostQubits (a .n) && between 1 (mostGenerators (a .n)) (a .r)) ≡ true
+counts-hold c = passed (c .before .counts-within .ensures) (c .if1 .left)
 
-n-holds : (c : At2) → between 2 mostQubits (start c .args .n) ≡ true
-n-holds c = let n = c .before .before .before in passed (n .before .between .ensures) (n .if1 .left)
-
-r-holds : (c : At2) → between 1 (mostGenerators (start c .args .n)) (start c .args .r) ≡ true
-r-holds c = passed (toldR (c .before)) (c .if2 .left)
-
-sizes : (c : At2) → (start c .args .n ≤ mostQubits) × (start c .args .r ≤ rowRoom)
+sizes : (c : At1) → (start c .args .n ≤ mostQubits) × (start c .args .r ≤ rowRoom)
 unfolding mostGenerators
 sizes c =
-    let n = between-bounds _ _ _ (n-holds c) in
-    let r = between-bounds _ _ _ (r-holds c) in
+    let each = both _ _ (counts-hold c) in
+    let n = between-bounds _ _ _ (each .0) in
+    let r = between-bounds _ _ _ (each .1) in
     omega arith
 
 returns : tie.Need-returns Inv-loop μ-loop
 unfolding generatorsWithin
-returns c = first-decides _ _ _ (failed (c .before .between .ensures) (c .if1 .taken))
-
-returns-2 : tie.Need-returns-2 Inv-loop μ-loop
-unfolding generatorsWithin
-returns-2 c =
-    let n = c .before .before .before in
-    second-decides _ _ _ (passed (n .before .between .ensures) (n .if1 .left)) (failed (toldR (c .before)) (c .if2 .taken))
+returns c =
+    let a = c .before .before .args in
+    ap (λ t. t && allOf (isRow (a .n)) (take (a .r) (a .t3)))
+    (sym (failed (c .before .counts-within .ensures) (c .if1 .taken)))
 
 loop-holds : tie.Need-loop-holds Inv-loop μ-loop
 loop-holds c =
@@ -82,26 +68,26 @@ left c test =
     at .loop .inv .3
     ∙ row-at (a .n) (a .r) (at .loop .place) (a .t3) (omega (arith, at .loop .inv .0, at .loop .inv .2)) few test
 
-returns-3 : tie.Need-returns-3 Inv-loop μ-loop
+returns-2 : tie.Need-returns-2 Inv-loop μ-loop
 unfolding generatorsWithin
-returns-3 c =
-    let two = c .before .before .before .before .before in
-    sym (left (c .before) (failed (c .before .is-row .ensures) (c .if3 .taken)))
-    ∙ third-decides _ _ _ (n-holds two) (r-holds two)
+returns-2 c =
+    let counts = c .before .before .before .before .before in
+    sym (left (c .before) (failed (c .before .is-row .ensures) (c .if2 .taken)))
+    ∙ and-true-l _ (counts-hold counts)
 
 loop-again : tie.Need-loop-again Inv-loop μ-loop
 loop-again c =
     let at = c .before .before .before .before in
     let few : at .loop .place < start (at .before) .args .r = c .before .before .before .loop-test .taken in
-    (at .loop .inv .0, omega arith, at .loop .inv .2, left (c .before) (passed (c .before .is-row .ensures) (c .if3 .left)))
+    (at .loop .inv .0, omega arith, at .loop .inv .2, left (c .before) (passed (c .before .is-row .ensures) (c .if2 .left)))
 
-returns-4 : tie.Need-returns-4 Inv-loop μ-loop
+returns-3 : tie.Need-returns-3 Inv-loop μ-loop
 unfolding generatorsWithin
-returns-4 c =
+returns-3 c =
     let at = c .before in
     let a = start (at .before) .args in
     sym (at .loop .inv .3 ∙ no-row-left (a .n) (a .r) (at .loop .place) (a .t3) (c .loop-test .left))
-    ∙ third-decides _ _ _ (n-holds (at .before)) (r-holds (at .before))
+    ∙ and-true-l _ (counts-hold (at .before))
 
 pub generators-within-spec : {M : Type 1} → statement M
 generators-within-spec =
@@ -111,15 +97,12 @@ generators-within-spec =
     μ-loop
     (λ c κs. search needs)
     returns
-    (λ c κs. search needs)
-    (λ c κs. search needs)
-    returns-2
     loop-holds
     (λ c. search needs)
     (λ c. search needs)
     (λ c κs. sizes (c .before .before .before) .0)
-    returns-3
+    returns-2
     (λ c. search needs)
     (λ c. search needs)
     loop-again
-    returns-4)
+    returns-3)
