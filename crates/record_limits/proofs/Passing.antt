@@ -21,11 +21,6 @@ idle zero rows = rows
 idle (suc place) [] = []
 idle (suc place) (P ∷ rows) = identity ∷ idle place rows
 
-idle-length : (place : ℕ) (rows : List Pauli) → length (idle place rows) ≡ length rows
-idle-length zero rows = refl
-idle-length (suc place) [] = refl
-idle-length (suc place) (P ∷ rows) = ap suc (idle-length place rows)
-
 idle-read : (place : ℕ) (rows : List Pauli) → getD (idle place rows) place identity ≡ getD rows place identity
 idle-read zero rows = refl
 idle-read (suc place) [] = refl
@@ -62,9 +57,6 @@ module _ (n m : ℕ) (rows : List Pauli) where
       }
 
   module _ {place : ℕ} {array : List Pauli} (c : Passing place array) where
-    pub passing-room : length array ≡ rowRoom
-    passing-room = ap length (c .held) ∙ idle-length place rows ∙ c .room
-
     -- Where all have passed, the array decides.
     pub passing-all : m ≤ place → areRows n m rows ≡ areIdentities array
     passing-all end =
