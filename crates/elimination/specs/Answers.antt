@@ -26,8 +26,8 @@ unfoldable pub independence : ℕ → List Pauli → Elimination
 independence n rows =
     eliminated (firstFault dependence [] firstGeneratorAt rows) n (canonicalGenerators n rows)
 
--- RULES, "Calls and buffers": 15 where n, r or the first r rows are outside their limits, then 6 to 8; and the canonical
--- generators.
+-- RULES, "Calls and buffers": 15 where n, r or the first r rows are outside their limits, then 6 to 8; and the
+-- canonical generators.
 unfoldable pub rowsElimination : ℕ → ℕ → List Pauli → Elimination
 rowsElimination n r g =
     eliminated

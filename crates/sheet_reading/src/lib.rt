@@ -3,10 +3,11 @@ use admission::Admission;
 use admission::Reading;
 use code_checks::check_read;
 use code_record::Code;
+use reader::read_lines;
 use refusals::Checked;
 use refusals::Lines;
 use refusals::Refusal;
-use sheet_end::read_form;
+use sheet_end::behind;
 ghost use mathlib.Core.Bool.{true};
 ghost use mathlib.Core.Path.{_≡_};
 ghost use Rattle.code_record.specs.Record.{withinLimits, limitsFault};
@@ -39,15 +40,19 @@ fn judged(code: Code, at: usize) -> Reading
     }
 }
 
-// A sheet is admitted, with its code, or refused for its first fault.
+// A sheet is admitted, with its code, or refused for its first fault: of its lines, then bytes behind them, then of the
+// checks. The record stays where the lines were read into.
 pub fn read_sheet(s: &[u8]) -> Reading
     ensures { λ r. ⌜ r ≡ readSheet (now (s .entry)) ⌝ }
 {
-    let form = read_form(s);
-    let lines = form.answer;
+    let reading = read_lines(s);
+    let lines = reading.answer;
     if let Lines::Refused(refusal) = lines {
         return refused(refusal);
     }
-    let code = form.code;
-    judged(code, form.claim_at)
+    if 0 < behind(s, lines).len() {
+        return refused(Refusal::Form(reading.claim_at + 1));
+    }
+    let code = reading.code;
+    judged(code, reading.claim_at)
 }

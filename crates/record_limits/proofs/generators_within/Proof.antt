@@ -51,8 +51,12 @@ returns c =
 loop-holds : tie.Need-loop-holds Inv-loop μ-loop
 loop-holds c =
     let a = start c .args in
-    let all : a .r ≡ a .r - 0 = omega arith in
-    (start c .good .1 .1 .0 .1 .0 .1, omega arith, sizes c .1, ap (λ (i : ℕ). allOf (isRow (a .n)) (take i (a .t3))) all)
+    let all : a .r ≡ a .r - 0 = omega arith in (
+      start c .good .1 .1 .0 .1 .0 .1,
+      omega arith,
+      sizes c .1,
+      ap (λ (i : ℕ). allOf (isRow (a .n)) (take i (a .t3))) all,
+    )
 
 -- At a turn the row at the place is asked, and then those behind it.
 left : (c : tie.After-is-row Inv-loop μ-loop) {test : Bool}
@@ -78,8 +82,12 @@ returns-2 c =
 loop-again : tie.Need-loop-again Inv-loop μ-loop
 loop-again c =
     let at = c .before .before .before .before in
-    let few : at .loop .place < start (at .before) .args .r = c .before .before .before .loop-test .taken in
-    (at .loop .inv .0, omega arith, at .loop .inv .2, left (c .before) (passed (c .before .is-row .ensures) (c .if2 .left)))
+    let few : at .loop .place < start (at .before) .args .r = c .before .before .before .loop-test .taken in (
+      at .loop .inv .0,
+      omega arith,
+      at .loop .inv .2,
+      left (c .before) (passed (c .before .is-row .ensures) (c .if2 .left)),
+    )
 
 returns-3 : tie.Need-returns-3 Inv-loop μ-loop
 unfolding generatorsWithin
