@@ -30,8 +30,7 @@ fn claim_and_distance(code: Code, reduced: ReducedRows, at: usize) -> Checked
 // 9 and 10, then 11 to 14, with the rows that 6 to 8 gave. The checks of the logicals have 15 before them, where
 // no sheet has so many qubits.
 fn behind_generators(code: Code, reduced: ReducedRows, at: usize) -> Checked
-    ensures { λ r.
-        ⌜ checkedRefusal r ≡ laterFault at code reduced ⌝ }
+    ensures { λ r. ⌜ checkedRefusal r ≡ laterFault at code reduced ⌝ }
 {
     let answer = check_logicals(code);
     let Checked::Passed = answer else {

@@ -77,7 +77,8 @@ fn numbers_within(n: usize, r: usize, d: usize) -> bool
     counts_within(n, r) && between(1, MOST_DISTANCE, d)
 }
 
-// Whether a record is within its limits.
+// Whether a record is within its limits. A used row that passes is put to +I in a copy of its family, so that all rows
+// of the record can then be tested at once.
 pub fn within_limits(code: Code) -> bool
     ensures { λ r. ⌜ r ≡ withinLimits code ⌝ }
 {
