@@ -71,7 +71,7 @@ module _ (at : ℕ) (c : Code) {e : Elimination} (known : e ≡ elimination c) w
         ∙ claim-checks-are-of-admission at c (elimination c .reduced) (contains-decides-membership c passes (c .w)))
         (ap (distanceBy at c) rows ∙ distance-is-checked at c passes)
 
-    later-decides : checkedRefusal checked ≡ (limitsFault c then codeFault at c)
+    pub later-decides : checkedRefusal checked ≡ (limitsFault c then codeFault at c)
     later-decides =
         found ∙ ap₂ _then_ within by-rows
         ∙ passed-first (groupFault c) (logicals then weights) (fault-told c known refl) passed ∙ whole

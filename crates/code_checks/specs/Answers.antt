@@ -1,13 +1,12 @@
 -- What the checks of a record answer, in the terms of the definitions.
 use mathlib.Core.List.{[]}
-use mathlib.Core.Option.{Option, none, some}
+use mathlib.Core.Option.{Option}
 use Prim.Native.Nat.{ℕ}
 use Rattle.code_record.specs.declared.Code.{Code}
 use Rattle.code_record.specs.Record.{generators, limitsFault, qubitFault}
 use Rattle.refusals.specs.declared.Checked.{Checked}
-use Rattle.refusals.specs.declared.Checked.the-variants.{Passed, Refused}
 use Rattle.refusals.specs.declared.Refusal.{Refusal}
-use Rattle.refusals.specs.Refusals.{_then_}
+use Rattle.refusals.specs.Refusals.{checkedRefusal, _then_}
 use Rattle.stabilizer.specs.Canonical.{canonicalGenerators}
 use Rattle.reduced_rows.specs.declared.ReducedRows.{ReducedRows}
 use Rattle.reduced_rows.specs.Rows.{reducedOf}
@@ -30,14 +29,12 @@ abbrev pub laterFault : ℕ → Code → ReducedRows → Option Refusal
 laterFault at c hs =
     (qubitFault (c .n) then detectedFault c then pairingFault c) then claimFault at c hs then distanceBy at c hs
 
--- An elimination, and what later checks make of it.
-unfoldable pub judgedBy : Checked → Option Refusal → Elimination → Elimination
-judgedBy (Refused refusal) later e = e
-judgedBy Passed none e = e
-judgedBy Passed (some refusal) e = record { answer = Checked.Refused refusal; reduced = reducedOf 0 [] }
+-- The first fault of a record that was read: of its limits, those of its generators alone are asked for. A record within
+-- its limits has the same fault as from all checks.
+unfoldable pub readFault : ℕ → Code → Option Refusal
+readFault at c =
+    let e = rowsElimination (c .n) (c .r) (c .g) in checkedRefusal (e .answer) then laterFault at c (e .reduced)
 
--- The checks of a record that was read: of its limits, those of its generators alone are asked for. A record within its
--- limits has the same answer as from `checkedCode`.
-unfoldable pub checkedRead : ℕ → Code → Elimination
-checkedRead at c =
-    let e = rowsElimination (c .n) (c .r) (c .g) in judgedBy (e .answer) (laterFault at c (e .reduced)) e
+-- An answer without canonical generators.
+abbrev pub bareAnswer : Checked → Elimination
+bareAnswer checked = record { answer = checked; reduced = reducedOf 0 [] }

@@ -1,5 +1,6 @@
 // The checks 6 to 14 of a record, each made where those before it passed. One elimination, of 6 to 8, gives the
-// canonical generators for 13 and 14, and they are handed out for what is said of a record that passes.
+// canonical generators for 13 and 14. The checks of any record hand them out, for what is said of one that passes; the
+// checks of a record that was read do not, since that would copy them.
 use claim_checks::check_claim;
 use code_record::Code;
 use distance::check_distance;
@@ -14,7 +15,17 @@ ghost use mathlib.Core.Path.{_≡_};
 ghost use Rattle.refusals.specs.Refusals.{checkedRefusal, _then_};
 ghost use Rattle.claim_checks.specs.Claim.{claimFault};
 ghost use Rattle.distance.specs.Search.{distanceBy};
-ghost use Rattle.code_checks.specs.Answers.{laterFault, checkedRead, checkedCode};
+ghost use Rattle.code_checks.specs.Answers.{bareAnswer, laterFault, readFault, checkedCode};
+
+// Beside a refusal there are no canonical generators.
+fn refused(answer: Checked) -> Elimination
+    ensures { λ r. ⌜ r ≡ bareAnswer answer ⌝ }
+{
+    Elimination {
+        answer,
+        reduced: ReducedRows::empty(0),
+    }
+}
 
 // 11 to 13, then 14.
 fn claim_and_distance(code: Code, reduced: ReducedRows, at: usize) -> Checked
@@ -40,11 +51,27 @@ fn behind_generators(code: Code, reduced: ReducedRows, at: usize) -> Checked
 }
 
 // The first fault of a record that was read, whose w stands on the line `at`: 15 where its generators are outside their
-// limits, then 6 to 14. Beside it are the canonical generators where there is no fault, and none of them where there is
-// one. A reading gives no record outside its limits, so they are not asked for once more.
-pub fn check_read(code: Code, at: usize) -> Elimination
-    ensures { λ r. ⌜ r ≡ checkedRead at code ⌝ }
+// limits, then 6 to 14. A reading gives no record outside its limits, so the others are not asked for once more.
+pub fn check_read(code: Code, at: usize) -> Checked
+    ensures { λ r. ⌜ checkedRefusal r ≡ readFault at code ⌝ }
 {
+    let g = code.g;
+    let rows = eliminate_rows(code.n, code.r, g);
+    let first = rows.answer;
+    let Checked::Passed = first else {
+        return first;
+    };
+    behind_generators(code, rows.reduced, at)
+}
+
+// The same of any record: 15 where it is outside its limits, then 6 to 14. Beside the answer are the canonical
+// generators where there is no fault, and none of them where there is one.
+pub fn check_code(code: Code, at: usize) -> Elimination
+    ensures { λ r. ⌜ r ≡ checkedCode at code ⌝ }
+{
+    if !within_limits(code) {
+        return refused(Checked::Refused(Refusal::RecordLimits));
+    }
     let g = code.g;
     let generators = eliminate_rows(code.n, code.r, g);
     let first = generators.answer;
@@ -53,23 +80,7 @@ pub fn check_read(code: Code, at: usize) -> Elimination
     };
     let answer = behind_generators(code, generators.reduced, at);
     let Checked::Passed = answer else {
-        return Elimination {
-            answer,
-            reduced: ReducedRows::empty(0),
-        };
+        return refused(answer);
     };
     generators
-}
-
-// The same of any record: 15 where it is outside its limits.
-pub fn check_code(code: Code, at: usize) -> Elimination
-    ensures { λ r. ⌜ r ≡ checkedCode at code ⌝ }
-{
-    if within_limits(code) {
-        return check_read(code, at);
-    }
-    Elimination {
-        answer: Checked::Refused(Refusal::RecordLimits),
-        reduced: ReducedRows::empty(0),
-    }
 }

@@ -17,45 +17,47 @@ ghost use Rattle.independent_rows.specs.Rows.{independentRows};
 pub fn independent_rows(n: u32, rows: [Pauli; ROW_ROOM], count: usize) -> ReducedRows
     ensures { λ r. ⌜ r ≡ reducedOf n (independentRows n [] (take count rows)) ⌝ }
 {
-    // What a call gives back would be copied.
-    let one = Pauli::identity();
-    let mut reduced = ReducedRows {
-        n,
-        count: 0,
-        rows: [one; ROW_ROOM],
-    };
+    // The rows stand by themselves until they are given back: in a struct they would be copied once more.
+    let mut reduced = [Pauli::identity(); ROW_ROOM];
     let mut place: usize = 0;
     while place < ROW_ROOM && place < count {
         // What the rows so far leave of the next one.
         let mut left = rows[place];
         let mut at: usize = 0;
         while at < place {
-            left = cleared(n, reduced.rows[at], left);
+            left = cleared(n, reduced[at], left);
             at += 1;
         }
         if is_phase(left) {
-            return reduced;
+            return ReducedRows {
+                n,
+                count: place,
+                rows: reduced,
+            };
         }
         // They are cleared by it.
         left = modulo4(left);
         at = 0;
         while at < place {
-            reduced.rows[at] = cleared(n, left, reduced.rows[at]);
+            reduced[at] = cleared(n, left, reduced[at]);
             at += 1;
         }
         // It is put in its place: those whose first ones come behind its own move up, the last one first.
         let first = pivot(n, left);
         while at > 0 {
-            let last = reduced.rows[at - 1];
+            let last = reduced[at - 1];
             if pivot(n, last) <= first {
                 break;
             }
-            reduced.rows[at] = last;
+            reduced[at] = last;
             at -= 1;
         }
-        reduced.rows[at] = left;
+        reduced[at] = left;
         place += 1;
-        reduced.count = place;
     }
-    reduced
+    ReducedRows {
+        n,
+        count: place,
+        rows: reduced,
+    }
 }

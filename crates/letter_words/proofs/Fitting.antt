@@ -31,32 +31,44 @@ use Rattle.letter_words.proofs.LetterBits.{x-bit, y-bit, z-bit}
 abbrev bitOf : ℕ → ℕ → ℕ
 bitOf mask qubit = mask / 2 ^ qubit % 2
 
+-- All bits of a full mask are ones.
+full-bit : (qubit : ℕ) → qubit < 32 → bitOf 4294967295 qubit ≡ 1
+full-bit qubit within =
+    let above = 31 - qubit in
+    let whole : 4294967295 ≡ 2 ^ (suc above + qubit) - 1 =
+    ap (λ (k : ℕ). 2 ^ k - 1) {x = 32} {y = suc above + qubit} (omega arith) in
+    ap (λ (x : ℕ). x / 2 ^ qubit % 2) (whole ∙ ones-split (suc above) qubit)
+    ∙ ap (λ (x : ℕ). x % 2) (high (2 ^ suc above - 1) qubit (ones-lt qubit))
+    ∙ odd above
+  where
+    odd : (k : ℕ) → (2 ^ suc k - 1) % 2 ≡ 1
+    odd k = omega (arith, pow-pos k)
+
 -- A qubit stays if it was there and has the wanted bit.
-having-bit : (set mask want qubit : ℕ)
+having-bit : (set mask want qubit : ℕ) → qubit < 32
     → eqb (bitOf (having set mask (want % 2)) qubit) 1
     ≡ (eqb (bitOf set qubit) 1 && eqb (bitOf mask qubit) (want % 2))
-having-bit set mask want qubit =
+having-bit set mask want qubit within =
     digit
     (λ (w : ℕ). eqb (bitOf (having set mask w) qubit) 1 ≡ (eqb (bitOf set qubit) 1 && eqb (bitOf mask qubit) w))
-    (ap (λ (b : ℕ). eqb b 1) left-bit
-    ∙ both (λ (s m : ℕ). eqb (bitXor s (bitAnd s m)) 1 ≡ (eqb s 1 && eqb m 0)) refl refl refl refl)
-    (ap (λ (b : ℕ). eqb b 1) (shared-bit set mask)
-    ∙ both (λ (s m : ℕ). eqb (bitAnd s m) 1 ≡ (eqb s 1 && eqb m 1)) refl refl refl refl) want
+    (ap (λ (b : ℕ). eqb b 1) (turned-bit 4294967295 1 (full-bit qubit within))
+    ∙ both (λ (s m : ℕ). eqb (bitAnd s (bitXor m 1)) 1 ≡ (eqb s 1 && eqb m 0)) refl refl refl refl)
+    (ap (λ (b : ℕ). eqb b 1) (turned-bit 0 0 (ap (λ (x : ℕ). x % 2) (zero-div (2 ^ qubit))))
+    ∙ both (λ (s m : ℕ). eqb (bitAnd s (bitXor m 0)) 1 ≡ (eqb s 1 && eqb m 1)) refl refl refl refl) want
   where
     both : (P : ℕ → ℕ → Type 0) → P 0 0 → P 0 1 → P 1 0 → P 1 1 → P (bitOf set qubit) (bitOf mask qubit)
     both P p00 p01 p10 p11 =
         digit (λ (s : ℕ). P s (bitOf mask qubit)) (digit (P 0) p00 p01 (mask / 2 ^ qubit))
         (digit (P 1) p10 p11 (mask / 2 ^ qubit)) (set / 2 ^ qubit)
 
-    shared-bit : (m k : ℕ) → bitOf (bitAnd m k) qubit ≡ bitAnd (bitOf m qubit) (bitOf k qubit)
-    shared-bit m k = ap (λ (x : ℕ). x % 2) (and-shr m k qubit) ∙ and-low (m / 2 ^ qubit) (k / 2 ^ qubit)
-
-    left-bit : bitOf (bitXor set (bitAnd set mask)) qubit
-        ≡ bitXor (bitOf set qubit) (bitAnd (bitOf set qubit) (bitOf mask qubit))
-    left-bit =
-        ap (λ (x : ℕ). x % 2) (xor-shr set (bitAnd set mask) qubit)
-        ∙ xor-low (set / 2 ^ qubit) (bitAnd set mask / 2 ^ qubit)
-        ∙ ap (bitXor (bitOf set qubit)) (shared-bit set mask)
+    turned-bit : (turned bit : ℕ) → bitOf turned qubit ≡ bit
+        → bitOf (bitAnd set (bitXor mask turned)) qubit ≡ bitAnd (bitOf set qubit) (bitXor (bitOf mask qubit) bit)
+    turned-bit turned bit e =
+        ap (λ (x : ℕ). x % 2) (and-shr set (bitXor mask turned) qubit)
+        ∙ and-low (set / 2 ^ qubit) (bitXor mask turned / 2 ^ qubit)
+        ∙ ap (bitAnd (bitOf set qubit))
+        (ap (λ (x : ℕ). x % 2) (xor-shr mask turned qubit) ∙ xor-low (mask / 2 ^ qubit) (turned / 2 ^ qubit)
+        ∙ ap (bitXor (bitOf mask qubit)) e)
 
 -- A word and a bit that are joined are compared apart.
 compared-apart : (word bit want : ℕ) → bit < 2
@@ -78,18 +90,6 @@ compared-apart word bit want small = elim (ℕ-discrete word (want / 2)) [
 -- ---- one letter
 
 -- Of no rows a letter has the syndrome 0 everywhere.
-full-bit : (qubit : ℕ) → qubit < 32 → bitOf 4294967295 qubit ≡ 1
-full-bit qubit within =
-    let above = 31 - qubit in
-    let whole : 4294967295 ≡ 2 ^ (suc above + qubit) - 1 =
-    ap (λ (k : ℕ). 2 ^ k - 1) {x = 32} {y = suc above + qubit} (omega arith) in
-    ap (λ (x : ℕ). x / 2 ^ qubit % 2) (whole ∙ ones-split (suc above) qubit)
-    ∙ ap (λ (x : ℕ). x % 2) (high (2 ^ suc above - 1) qubit (ones-lt qubit))
-    ∙ odd above
-  where
-    odd : (k : ℕ) → (2 ^ suc k - 1) % 2 ≡ 1
-    odd k = omega (arith, pow-pos k)
-
 none-passed : (l : Letter) (want set : ℕ) → set ≡ cond (eqb want 0) 4294967295 0 → HasAt [] want l set
 unfolding HasAt syndromeMask syndrome maskOfBits
 none-passed l want set e qubit within = elim (ℕ-discrete want 0) [
@@ -120,7 +120,7 @@ module _ (code : Code) (place want : ℕ) (some : 0 < place) (inside : place ≤
       let P = singleLetter qubit l in
       let word = syndromeMask (drop place (generators code)) P in
       let next = want / 2 ^ (place - 1) in
-      having-bit set mask next qubit
+      having-bit set mask next qubit within
       ∙ ap₂ _&&_ (has qubit within ∙ ap (eqb word) (sym halved))
       (ap (λ (b : ℕ). eqb b wantedBit) (sym (read qubit within)))
       ∙ compared-apart word (symplectic row P) next (omega (arith, read qubit within))

@@ -24,9 +24,10 @@ unfoldable pub loneLetter : Code → ℕ → Option (List Letter)
 loneLetter c want =
     firstOf (λ s. eqb (syndromeMask (generators c) (ofLetters s)) want) (strings (wordQubits c) 1)
 
--- Of the qubits in a set those whose bit in a mask is the wanted one, 0 or 1. A set is a mask with their bits.
+-- Of the qubits in a set those whose bit in a mask is the wanted one, 0 or 1. A set is a mask with their bits. Where 0
+-- is wanted, the mask is turned over.
 abbrev pub having : ℕ → ℕ → ℕ → ℕ
-having set mask bit = cond (eqb bit 1) (bitAnd set mask) (bitXor set (bitAnd set mask))
+having set mask bit = bitAnd set (bitXor mask (cond (eqb bit 0) 4294967295 0))
 
 -- A set has exactly the qubits at which a letter has a given syndrome to some rows.
 unfoldable pub HasAt : List Pauli → ℕ → Letter → ℕ → Type 0

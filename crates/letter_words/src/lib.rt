@@ -14,7 +14,7 @@ ghost use lib.Dec.{eqb};
 ghost use Rattle.code_record.specs.Record.{generators};
 ghost use Rattle.letter_sums.specs.Sums.{qubitRoom, foundAs};
 ghost use Rattle.letter_words.specs.Words.{syndromeWords, withGenerators};
-ghost use Rattle.letter_words.specs.Lone.{loneLetter, having, AreCandidates};
+ghost use Rattle.letter_words.specs.Lone.{loneLetter, AreCandidates};
 
 // The lesser of a number and the room there is for it.
 fn at_most(room: usize, n: usize) -> usize
@@ -79,14 +79,6 @@ pub fn syndrome_words(code: Code) -> LetterWords
     words_of(code.n, code.r, g)
 }
 
-// Of the qubits in a set those whose bit in a mask is the wanted one.
-fn having(set: u32, mask: u32, bit: u32) -> u32
-    ensures { λ r. ⌜ r ≡ having set mask bit ⌝ }
-{
-    let ones = set & mask;
-    if bit == 1 { ones } else { set ^ ones }
-}
-
 // The qubits at which X, Y and Z by themselves have a syndrome, each set as a mask.
 struct LetterSets {
     x: u32,
@@ -94,20 +86,21 @@ struct LetterSets {
     z: u32,
 }
 
-// The candidates before any generator is passed: all qubits, or none where the syndrome has bits above the last
-// generator's.
-fn candidates_at_first(above: u64) -> u32
-    ensures { λ r. ⌜ r ≡ cond (eqb above 0) 4294967295 0 ⌝ }
+// All qubits where a number is 0, and none where it is not.
+fn all_or_none(number: u64) -> u32
+    ensures { λ r. ⌜ r ≡ cond (eqb number 0) 4294967295 0 ⌝ }
 {
-    if above == 0 { 4294967295 } else { 0 }
+    if number == 0 { 4294967295 } else { 0 }
 }
 
 // They are found for all qubits at once, generator by generator: those stay whose letter has its bit of the syndrome.
+// Where that is 0, a mask's zeros are wanted, so it is turned over. No letter has a syndrome with bits above the last
+// generator's.
 fn candidates(r: usize, g: [Pauli; ROW_ROOM], syndrome: u32) -> LetterSets
     ensures { λ c. ⌜ AreCandidates (generators (withGenerators 0 r g)) syndrome c ⌝ }
 {
     let count = at_most(ROW_ROOM, r);
-    let all = candidates_at_first((syndrome as u64) >> count);
+    let all = all_or_none((syndrome as u64) >> count);
     let mut x = all;
     let mut y = all;
     let mut z = all;
@@ -115,10 +108,10 @@ fn candidates(r: usize, g: [Pauli; ROW_ROOM], syndrome: u32) -> LetterSets
     while place > 0 {
         place -= 1;
         let row = g[place];
-        let bit = (syndrome >> place) % 2;
-        x = having(x, row.b, bit);
-        y = having(y, row.a ^ row.b, bit);
-        z = having(z, row.a, bit);
+        let turned = all_or_none(((syndrome >> place) % 2) as u64);
+        x = x & (row.b ^ turned);
+        y = y & ((row.a ^ row.b) ^ turned);
+        z = z & (row.a ^ turned);
     }
     LetterSets { x, y, z }
 }

@@ -1,4 +1,5 @@
 -- The values of a line, as the code reads them: numbers of one or two digits, and letters from the last to the first.
+use mathlib.Core.Bool.{true, false, false≢true}
 use mathlib.Core.List.{List, [], _∷_}
 use mathlib.Core.Logic.{_⊎_}
 use mathlib.Core.Option.{Option, none, some, Option·map, bind, map-eq-some-iff}
@@ -17,7 +18,7 @@ use Rattle.pauli.proofs.Letters.{xMask-lt, zMask-lt}
 use Rattle.code_record.proofs.Limits.{bounds-between, outside-between}
 use Rattle.sheet.specs.Reader.{readDigit, readEach, readNumber, numberOf, readLetters}
 use Rattle.sheet.proofs.Values.{digit-written, number-from, letters-count}
-use Rattle.line_parts.specs.Values.{upTo}
+use Rattle.line_parts.specs.Values.{isRead, upTo}
 
 -- ---- words that are short enough, and those that are not
 
@@ -95,6 +96,15 @@ unfolding readLetters readEach bind ofLetters signedRow rowOf xMask zMask maskOf
 letter-more c l w a b e f =
     let found = map-eq-some-iff ofLetters (readEach readLetter w) .0 f in
     rw (e, found .1) (ap (λ P. some (rowOf Plus (xBit l + 2 * P .a) (zBit l + 2 * P .b))) (found .2))
+
+-- What was read is a letter, and what was not is none.
+pub read-some : (o : Option Letter) → isRead o ≡ true → (l : Letter) × (o ≡ some l)
+read-some (some l) e = (l, refl)
+read-some none e = absurd (false≢true e)
+
+pub read-none : (o : Option Letter) → isRead o ≡ false → o ≡ none
+read-none (some l) e = absurd (false≢true (sym e))
+read-none none e = refl
 
 -- The letter before a place, where those from the place on are read.
 pub letters-step : (w : List ℕ) (place a b x z : ℕ) (l : Letter) → 0 < place → place ≤ length w

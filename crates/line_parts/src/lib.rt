@@ -8,10 +8,11 @@ use pauli::Pauli;
 ghost use mathlib.Core.Path.{_≡_};
 ghost use lib.Dec.{eqb};
 ghost use lib.ListN.{getD};
+ghost use Rattle.letters.specs.Letters.{xBit, zBit, readLetter};
 ghost use Rattle.code_record.specs.Record.{mostQubits};
 ghost use Rattle.sheet.specs.Reader.{readDigit, readNumber, readLetters};
 ghost use Rattle.sheet.specs.Text.{lineFeed};
-ghost use Rattle.line_parts.specs.Values.{numberIn, rowIn, mostDigits, upTo};
+ghost use Rattle.line_parts.specs.Values.{numberIn, rowIn, isRead, bitOf, mostDigits, upTo};
 
 // What bytes are read as.
 pub enum Number {
@@ -58,6 +59,35 @@ pub fn read_number(word: &[u8]) -> Number
     Number::Got(first * 10 + second)
 }
 
+// Whether a byte is a letter, and below the bits that the letter has in a row's masks. Each is told by itself: compiled,
+// that is a comparison, where one way for each letter would be a jump that no machine foresees.
+fn is_letter(c: u8) -> bool
+    ensures { λ r. ⌜ r ≡ isRead (readLetter c) ⌝ }
+{
+    match Letter::read(c) {
+        LetterRead::Got(_) => true,
+        LetterRead::NotALetter => false,
+    }
+}
+
+fn x_bit(c: u8) -> u32
+    ensures { λ r. ⌜ r ≡ bitOf xBit (readLetter c) ⌝ }
+{
+    match Letter::read(c) {
+        LetterRead::Got(letter) => letter.x_bit(),
+        LetterRead::NotALetter => 0,
+    }
+}
+
+fn z_bit(c: u8) -> u32
+    ensures { λ r. ⌜ r ≡ bitOf zBit (readLetter c) ⌝ }
+{
+    match Letter::read(c) {
+        LetterRead::Got(letter) => letter.z_bit(),
+        LetterRead::NotALetter => 0,
+    }
+}
+
 // Letters, as a row with sign +. The masks grow from the last letter to the first.
 pub fn read_letters(word: &[u8]) -> Letters
     ensures { λ r. ⌜ rowIn r ≡ upTo mostQubits readLetters (now (word .entry)) ⌝ }
@@ -70,11 +100,12 @@ pub fn read_letters(word: &[u8]) -> Letters
     let mut place = word.len();
     while 0 < place {
         place -= 1;
-        let LetterRead::Got(letter) = Letter::read(word[place]) else {
+        let c = word[place];
+        if !is_letter(c) {
             return Letters::NotLetters;
-        };
-        a = letter.x_bit() + 2 * a;
-        b = letter.z_bit() + 2 * b;
+        }
+        a = x_bit(c) + 2 * a;
+        b = z_bit(c) + 2 * b;
     }
     Letters::Got(Pauli::signed(Sign::Plus, a, b))
 }

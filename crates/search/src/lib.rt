@@ -128,20 +128,15 @@ fn lightest(
 }
 
 // The same, with the table by which two letters and more are looked for.
-fn heavier(
-    first: &[u32; WORD_ROOM],
-    second: &[u64; WORD_ROOM],
-    qubits: usize,
-    t: usize,
-    want: u32,
-    shun: u64,
-) -> Found
+fn heavier(first: &[u32], second: &[u64], qubits: usize, t: usize, want: u32, shun: u64) -> Found
     requires { ⌜ qubits ≤ 32 ⌝ }
+    requires { ⌜ 3 * qubits ≤ length (now first) ⌝ }
+    requires { ⌜ 3 * qubits ≤ length (now second) ⌝ }
     requires { ⌜ ((v : ℕ) → v < 2 → earliestOf (now first) (now second) qubits v want shun ≡ none) ⌝ }
     ensures { λ r. ⌜ r ≡ foundAs (earliestUpTo (now (first .entry)) (now (second .entry)) qubits t want shun) ⌝ }
 {
     let mut places = [0u8; SLOTS];
-    first_places(*first, 3 * qubits, &mut places);
+    first_places(&first[..3 * qubits], &mut places);
     lightest(&places, first, second, qubits, t, want, shun)
 }
 

@@ -29,9 +29,7 @@ fn judged(code: Code, at: usize) -> Reading
     requires { ⌜ withinLimits code ≡ true ⌝ }
     ensures { λ r. ⌜ r ≡ readingOf code (limitsFault code then codeFault at code) ⌝ }
 {
-    let checks = check_read(code, at);
-    let answer = checks.answer;
-    match answer {
+    match check_read(code, at) {
         Checked::Passed => Reading {
             answer: Admission::Admitted,
             code,

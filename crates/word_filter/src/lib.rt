@@ -29,13 +29,13 @@ fn word_count(count: usize) -> usize
     WORD_ROOM
 }
 
-// The first place for each slot of a word among the first `count`, or among all where there are fewer. The places are
+// The first place for each slot of a word, of as many words as there is room for in an array of them. The places are
 // stored from the last one down, so that the first one stays.
-pub fn first_places(words: [u32; WORD_ROOM], count: usize, places: &mut [u8; SLOTS])
-    ensures { λ _. ⌜ now (places .exit) ≡ firstPlaces (take count words) ⌝ }
+pub fn first_places(words: &[u32], places: &mut [u8; SLOTS])
+    ensures { λ _. ⌜ now (places .exit) ≡ firstPlaces (take (3 * qubitRoom) (now (words .entry))) ⌝ }
 {
     *places = [NO_PLACE; SLOTS];
-    let mut place = word_count(count);
+    let mut place = word_count(words.len());
     while 0 < place {
         place -= 1;
         let at = slot(words[place]);

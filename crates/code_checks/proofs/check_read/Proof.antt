@@ -1,5 +1,5 @@
 -- The checks in their order, each where those before it passed.
-use Rattle.code_checks.proofs.ReadChecks.{generators-decide, later-refuse, later-pass}
+use Rattle.code_checks.proofs.ReadChecks.{generators-decide, later-found}
 use borrow.Author.Needs.{needs}
 use Rattle.code_checks.proofs.check_read.Statement.{statement}
 use Rattle.code_checks.proofs.check_read.Tie as tie
@@ -11,23 +11,12 @@ returns c =
 
 returns-2 : tie.Need-returns-2
 returns-2 c =
-    let later = c .before in
-    let told = later .before .before .before in
+    let told = c .before in
     let a = told .before .before .before .before .args in
-    later-refuse (a .at) (a .code) (told .before .before .eliminate-rows .ensures) (told .enum-told .given .1)
-    (later .before .before .behind-generators .result) (later .before .before .behind-generators .ensures)
-    (later .enum-told4 .given .1) (c .empty .ensures)
-
-returns-3 : tie.Need-returns-3
-returns-3 c =
-    let told = c .before .before .before in
-    let a = told .before .before .before .before .args in
-    later-pass (a .at) (a .code) (told .before .before .eliminate-rows .ensures) (told .enum-told .given .1)
-    (c .before .before .behind-generators .result) (c .before .before .behind-generators .ensures)
-    (c .enum-told3 .given .1)
+    later-found (a .at) (a .code) (told .before .before .eliminate-rows .ensures) (told .enum-told .given .1)
+    (c .behind-generators .result) (c .behind-generators .ensures)
 
 pub check-read-spec : {M : Type 1} → statement M
 check-read-spec =
     tie.close
-    (tie.spec (λ c κs. search needs) (λ c. search needs) (λ c. search needs) returns (λ c κs. search needs)
-    (λ c. search needs) (λ c. search needs) (λ c κs. search needs) returns-2 returns-3)
+    (tie.spec (λ c κs. search needs) (λ c. search needs) (λ c. search needs) returns (λ c κs. search needs) returns-2)

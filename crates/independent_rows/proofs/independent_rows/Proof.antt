@@ -20,25 +20,26 @@ use Rattle.independent_rows.proofs.independent_rows.Statement.{statemen
 use Rattle.independent_rows.proofs.independent_rows.Tie as tie
 
 abbrev Inv-loop2 : tie.InvT-loop2
-Inv-loop2 n count rows hs place left₀ at₀ left at = Reducing n hs place left₀ at left
+Inv-loop2 n count rows hs place left₀ at₀ left at = Reducing n (value n place hs) place left₀ at left
 
 abbrev μ-loop2 : tie.MeasureT-loop2
 μ-loop2 n count rows hs place left₀ at₀ left at = place - at
 
 abbrev Inv-loop3 : tie.InvT-loop3
-Inv-loop3 n count rows hs₀ place q at₀ hs at = Clearing n q (rowsIn hs₀) place at hs
+Inv-loop3 n count rows hs₀ place q at₀ hs at = Clearing n q (rowsIn (value n place hs₀)) place at (value n place hs)
 
 abbrev μ-loop3 : tie.MeasureT-loop3
 μ-loop3 n count rows hs₀ place q at₀ hs at = place - at
 
 abbrev Inv-loop4 : tie.InvT-loop4
-Inv-loop4 n count rows hs₀ place q at₀ first hs at = Moving n q (rowsIn hs₀) place at hs
+Inv-loop4 n count rows hs₀ place q at₀ first hs at =
+    Moving n q (rowsIn (value n place hs₀)) place at (value n place hs)
 
 abbrev μ-loop4 : tie.MeasureT-loop4
 μ-loop4 n count rows hs₀ place q at₀ first hs at = at
 
 abbrev Inv-loop : tie.InvT-loop
-Inv-loop n count rows hs₀ place₀ hs place = Added n rows count place hs
+Inv-loop n count rows hs₀ place₀ hs place = Added n rows count place (value n place hs)
 
 abbrev μ-loop : tie.MeasureT-loop
 μ-loop n count rows hs₀ place₀ hs place = rowRoom - place
@@ -69,7 +70,7 @@ module _ (c : tie.After-is-phase Inv-loop2 μ-loop2 Inv-loop3 μ-loop3 Inv-loop4
 
   left-is : let a = start loop2 .args in
       loop2 .loop2 .left
-      ≡ reduced (a .n) (rowsIn (at loop2 .loop .reduced)) (getD (a .t2) (at loop2 .loop .place) identity)
+      ≡ reduced (a .n) (rowsIn (value (a .n) (at loop2 .loop .place) (at loop2 .loop .reduced))) (getD (a .t2) (at loop2 .loop .place) identity)
   left-is = reducing-end (loop2 .loop2 .inv) (added-count _ _ _ (at loop2 .loop .inv)) (c .before .loop2-test .left)
 
 -- ---- the needs

@@ -23,13 +23,13 @@ loop-holds c =
     let code = withGenerators 0 (a .r) (a .t2) in
     let room : length (a .t2) ≡ rowRoom = search needs in
     at-the-end code (a .syndrome) _ _ room (omega (arith, c .before .at-most .ensures, length-take (a .r) (a .t2)))
-    (c .candidates-at-first .ensures)
+    (c .all-or-none .ensures)
 
 loop-again : tie.Need-loop-again Inv-loop μ-loop
 loop-again c =
-    let turn = c .before .before .before .before .before in
-    rw (c .before .before .before .having .ensures, c .before .having2 .ensures, c .having3 .ensures)
-    (one-more (turn .before .loop .inv) (turn .loop-test .taken))
+    let turned = c .before .before .before in
+    let turn = turned .before .before in
+    rw (turned .all-or-none2 .ensures) (one-more (turn .before .loop .inv) (turn .loop-test .taken))
 
 returns : tie.Need-returns Inv-loop μ-loop
 returns c = all-passed (c .before .loop .inv) (omega (arith, c .loop-test .left))
@@ -49,8 +49,7 @@ candidates-spec =
     (λ c. search needs)
     (λ c. search needs)
     (λ c. search needs)
-    (λ c κs. search needs)
-    (λ c κs. search needs)
+    (λ c. search needs)
     (λ c κs. search needs)
     (λ c. search needs)
     loop-again

@@ -121,12 +121,18 @@ returns-4 c =
 
 heavier-requires : tie.Need-heavier-requires
 heavier-requires c κs =
-    let nothing = c .before in
-    (omega (arith, few (without (struck (nothing .before .before) .before))), none-lone nothing)
+    let nothing = c .before .before .before in
+    let i = without (struck (nothing .before .before) .before) in
+    let few = few i in
+    let first-long : length (first i) ≡ 96 = search needs in
+    let second-long : length (second i) ≡ 96 = search needs in (
+      omega (arith, few),
+      (omega (arith, few, first-long), (omega (arith, few, second-long), none-lone nothing)),
+    )
 
 returns-5 : tie.Need-returns-5
 returns-5 c =
-    c .heavier .ensures ∙ on-qubits (without (struck (c .before .before .before .before) .before))
+    c .heavier .ensures ∙ on-qubits (without (struck (c .before .before .before .before .before .before) .before))
 
 pub earliest-spec : {M : Type 1} → statement M
 earliest-spec =

@@ -1,11 +1,12 @@
 -- The table tells nothing wrong, and its length is known.
 use mathlib.Core.Path.{_≡_, subst, sym, _∙_, ap}
 use mathlib.Core.List.{List}
-use Prim.Native.Nat.{ℕ, _*_}
+use Prim.Native.Nat.{ℕ, _*_, _≤_}
 use native.Mathlib.Omega.{arith}
-use lib.ListN.{length, take}
+use lib.ListN.{length, take, length-take}
+use lib.Seq.{take-all, length-take-le}
 use borrow.Author.Needs.{needs}
-use Rattle.word_filter.specs.Filter.{NoneBefore}
+use Rattle.word_filter.specs.Filter.{firstPlaces, NoneBefore}
 use Rattle.word_filter.proofs.Tables.{all-told, length-first-places}
 use Rattle.search.proofs.heavier.Statement.{statement}
 use Rattle.search.proofs.heavier.Tie as tie
@@ -14,27 +15,36 @@ use Rattle.search.proofs.heavier.Tie as tie
 abbrev words : tie.Start → List ℕ
 words s = take (3 * s .args .qubits) (s .args .first .now)
 
+-- They have room in an array.
+whole : (s : tie.Start) → firstPlaces (take 96 (words s)) ≡ firstPlaces (words s)
+whole s =
+    let all : length (words s) ≤ 96 = omega (arith, s .pre .0, length-take (3 * s .args .qubits) (s .args .first .now)) in
+    ap firstPlaces (take-all 96 (words s) all)
+
+slice-aggregate-first-places : tie.Need-slice-aggregate-first-places
+slice-aggregate-first-places c =
+    let start = c .before .before .before in
+    sym (length-take-le (3 * start .args .qubits) (start .args .first .now) (start .pre .1 .0))
+
 slice-aggregate-lightest : tie.Need-slice-aggregate-lightest
 slice-aggregate-lightest c =
-    length-first-places (words (c .before .before .before .before))
-    ∙ ap length (sym (c .before .first-places .ensures))
+    let start = c .before .before .before .before .before .before in
+    length-first-places (words start) ∙ ap length (sym (c .before .first-places .ensures ∙ whole start))
 
 lightest-requires : tie.Need-lightest-requires
 lightest-requires c κs =
     let start = c .before .before .before .before .before .before in
-    let a = start .args in
-    let few = start .pre in
-    let first-long : length (a .first .now) ≡ 96 = search needs in
-    let second-long : length (a .second .now) ≡ 96 = search needs in
+    let pre = start .pre in
     let told = subst (λ (places : List ℕ). NoneBefore places (words start))
-    (sym (c .before .before .before .first-places .ensures)) (all-told (words start)) in
-    (few .0, (omega (arith, few .0, first-long), (omega (arith, few .0, second-long), (told, few .1))))
+    (sym (c .before .first-places .ensures ∙ whole start)) (all-told (words start)) in
+    (pre .0, (pre .1 .0, (pre .1 .1 .0, (told, pre .1 .1 .1))))
 
 pub heavier-spec : {M : Type 1} → statement M
 heavier-spec =
     tie.close
     (tie.spec
     (λ c. search needs)  -- mul-first-places
+    slice-aggregate-first-places
     (λ c κs. search needs)  -- first-places-requires
     slice-aggregate-lightest
     lightest-requires

@@ -12,42 +12,46 @@ use Rattle.word_filter.proofs.first_places.Statement.{statement}
 use Rattle.word_filter.proofs.first_places.Tie as tie
 
 abbrev Inv-loop : tie.InvT-loop
-Inv-loop count places₀ words place₀ places place =
+Inv-loop words places₀ place₀ places place =
     (place ≤ 96)
-    × (place ≤ length (take count words))
-    × (places ≡ placesFrom place (drop place (take count words)))
+    × (place ≤ length (take 96 words))
+    × (places ≡ placesFrom place (drop place (take 96 words)))
 
 abbrev μ-loop : tie.MeasureT-loop
-μ-loop count places₀ words place₀ places place = place
+μ-loop words places₀ place₀ places place = place
 
 -- The words that are counted.
 module _ (c : tie.Start Inv-loop μ-loop) where
   abbrev words : List ℕ
-  words = take (c .args .count) (c .args .t1)
+  words = take 96 (c .args .words .now)
 
-  counted : length words ≡ min (c .args .count) 96
-  counted =
-      let sized : length (c .args .t1) ≡ 96 = search needs in
-      omega (arith, length-take (c .args .count) (c .args .t1), sized)
+  counted : length words ≡ min (length (c .args .words .now)) 96
+  counted = omega (arith, length-take 96 (c .args .words .now))
 
 loop-holds : tie.Need-loop-holds Inv-loop μ-loop
 unfolding noPlaces
 loop-holds c =
-    let start = c .before .before in
+    let start = c .before .before .before in
     let all : c .word-count .result ≡ length (words start) = c .word-count .ensures ∙ sym (counted start) in
     (omega (arith, c .word-count .ensures), omega (arith, all), none-stored _ (words start) (omega (arith, all)))
 
-loop-again : tie.Need-loop-again Inv-loop μ-loop
-loop-again c =
+shared-slice-read-slot : tie.Need-shared-slice-read-slot Inv-loop μ-loop
+shared-slice-read-slot c =
     let turn = c .before in
     let at = turn .before in
-    let start = at .before .before .before in
+    omega (arith, turn .loop-test .taken, at .loop .inv .1, counted (at .before .before .before .before))
+
+loop-again : tie.Need-loop-again Inv-loop μ-loop
+loop-again c =
+    let turn = c .before .before in
+    let at = turn .before in
+    let start = at .before .before .before .before in
     let place = at .loop .place in
     let inside = at .loop .inv .1 in
     let some = turn .loop-test .taken in
     let own : c .slot .result ≡ slotOf (getD (words start) (place - 1) 0) =
     c .slot .ensures
-    ∙ ap slotOf (sym (getD-take (start .args .count) (start .args .t1) (place - 1) 0
+    ∙ ap slotOf (sym (getD-take 96 (start .args .words .now) (place - 1) 0
     (omega (arith, some, inside, counted start)))) in (
       omega (arith, at .loop .inv .0),
       omega (arith, inside),
@@ -60,7 +64,7 @@ unfolding firstPlaces
 returns c =
     let at = c .before in
     at .loop .inv .2
-    ∙ ap (λ (place : ℕ). placesFrom place (drop place (words (at .before .before .before))))
+    ∙ ap (λ (place : ℕ). placesFrom place (drop place (words (at .before .before .before .before))))
     (omega (arith, c .loop-test .left))
 
 pub first-places-spec : {M : Type 1} → statement M
@@ -73,7 +77,7 @@ first-places-spec =
     loop-holds
     (λ c. search needs)  -- sub-place
     (λ c. search needs)  -- mul-slot
-    (λ c. search needs)  -- array-read-slot
+    shared-slice-read-slot
     (λ c κs. search needs)  -- slot-requires
     (λ c. search needs)  -- cast-places
     (λ c. search needs)  -- element-write-places
