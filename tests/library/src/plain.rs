@@ -1,6 +1,6 @@
 //! The calls of the library once more, as one would write them in Rust for speed: with masks, and without `unsafe`. The
-//! benchmark has them beside the library. They answer as it does, refusals included, and take a record by value, as the
-//! interface has it.
+//! benchmark has them beside the library. They answer as it does, refusals included. They take a record by value and by
+//! C's convention, as the interface has it; what they answer stays in Rust's types.
 //!
 //! The search has two forms, which a caller names: `Scan` and `Table`.
 
@@ -32,7 +32,8 @@ pub fn read_sheet<W: Walk>(bytes: &[u8]) -> Result<Code, RefusedSheet> {
 
 /// Writes the canonical generators of a record, and answers how many bytes they have.
 #[inline(never)]
-pub fn canonical(code: Code, out: &mut [u8]) -> Result<usize, Refusal> {
+#[allow(improper_ctypes_definitions)]
+pub extern "C" fn canonical(code: Code, out: &mut [u8]) -> Result<usize, Refusal> {
     check_limits(&code)?;
     let rows = checks::check_generators(&code)?;
     let mut text = Vec::with_capacity(code.r * (code.n + 4));

@@ -8,7 +8,8 @@ use reinoften::{Code, Pauli, Refusal};
 
 /// Writes the letters of the correction, and answers how many there are; or none.
 #[inline(never)]
-pub fn decode<W: Walk>(
+#[allow(improper_ctypes_definitions)]
+pub extern "C" fn decode<W: Walk>(
     code: Code,
     characters: &[u8],
     out: &mut [u8],
@@ -27,7 +28,8 @@ pub fn decode<W: Walk>(
 
 /// The correction for a syndrome by value; or none.
 #[inline(never)]
-pub fn correct<W: Walk>(code: Code, syndrome: u32) -> Result<Option<Pauli>, Refusal> {
+#[allow(improper_ctypes_definitions)]
+pub extern "C" fn correct<W: Walk>(code: Code, syndrome: u32) -> Result<Option<Pauli>, Refusal> {
     check_limits(&code)?;
     if syndrome >> code.r != 0 {
         return Err(refusal(16, 0));

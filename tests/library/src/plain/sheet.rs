@@ -3,7 +3,7 @@
 use super::refusal;
 use reinoften::{Code, Pauli, Refusal};
 
-const PLUS_I: Pauli = Pauli { p: 0, a: 0, b: 0 };
+pub const PLUS_I: Pauli = Pauli { p: 0, a: 0, b: 0 };
 
 /// The record of a sheet, the line of w, and the bytes behind it.
 pub struct Read<'a> {
