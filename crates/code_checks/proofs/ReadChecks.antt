@@ -27,7 +27,8 @@ module _ (at : ℕ) (c : Code) where
     pub generators-decide : {refusal : Refusal} → e .answer ≡ Checked.Refused refusal
         → checkedRefusal (e .answer) ≡ readFault at c
     unfolding readFault
-    generators-decide told = refused-first _ (laterFault at c (rowsElimination (c .n) (c .r) (c .g) .reduced)) first told
+    generators-decide told =
+        refused-first _ (laterFault at c (rowsElimination (c .n) (c .r) (c .g) .reduced)) first told
 
     pub later-found : e .answer ≡ Checked.Passed → (checked : Checked)
         → checkedRefusal checked ≡ laterFault at c (e .reduced) → checkedRefusal checked ≡ readFault at c

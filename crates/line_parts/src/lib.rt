@@ -59,8 +59,8 @@ pub fn read_number(word: &[u8]) -> Number
     Number::Got(first * 10 + second)
 }
 
-// Whether a byte is a letter, and below the bits that the letter has in a row's masks. Each is told by itself: compiled,
-// that is a comparison, where one way for each letter would be a jump that no machine foresees.
+// Whether a byte is a letter, and below, the bits that the letter has in a row's masks. Each is told by itself, which
+// is compiled to a comparison. One way for each letter would be a jump that is hard to foresee.
 fn is_letter(c: u8) -> bool
     ensures { λ r. ⌜ r ≡ isRead (readLetter c) ⌝ }
 {

@@ -70,7 +70,8 @@ module _ (c : tie.After-is-phase Inv-loop2 μ-loop2 Inv-loop3 μ-loop3 Inv-loop4
 
   left-is : let a = start loop2 .args in
       loop2 .loop2 .left
-      ≡ reduced (a .n) (rowsIn (value (a .n) (at loop2 .loop .place) (at loop2 .loop .reduced))) (getD (a .t2) (at loop2 .loop .place) identity)
+      ≡ reduced (a .n) (rowsIn (value (a .n) (at loop2 .loop .place) (at loop2 .loop .reduced)))
+      (getD (a .t2) (at loop2 .loop .place) identity)
   left-is = reducing-end (loop2 .loop2 .inv) (added-count _ _ _ (at loop2 .loop .inv)) (c .before .loop2-test .left)
 
 -- ---- the needs

@@ -15,7 +15,8 @@ use Rattle.code_record.specs.Record.{mostQubits}
 use Rattle.code_record.proofs.Tests.{passed, failed}
 use Rattle.sheet.specs.Reader.{readEach, readLetters}
 use Rattle.line_parts.specs.Values.{bitOf}
-use Rattle.line_parts.proofs.Values.{few-bytes, many-bytes, read-some, read-none, letters-step, letters-small, no-letter}
+use Rattle.line_parts.proofs.Values.{few-bytes, many-bytes, read-some, read-none}
+use Rattle.line_parts.proofs.Values.{letters-step, letters-small, no-letter}
 use Rattle.line_parts.proofs.read_letters.Statement.{statement}
 use Rattle.line_parts.proofs.read_letters.Tie as tie
 

@@ -18,7 +18,8 @@ words s = take (3 * s .args .qubits) (s .args .first .now)
 -- They have room in an array.
 whole : (s : tie.Start) → firstPlaces (take 96 (words s)) ≡ firstPlaces (words s)
 whole s =
-    let all : length (words s) ≤ 96 = omega (arith, s .pre .0, length-take (3 * s .args .qubits) (s .args .first .now)) in
+    let counted = length-take (3 * s .args .qubits) (s .args .first .now) in
+    let all : length (words s) ≤ 96 = omega (arith, s .pre .0, counted) in
     ap firstPlaces (take-all 96 (words s) all)
 
 slice-aggregate-first-places : tie.Need-slice-aggregate-first-places
