@@ -29,8 +29,8 @@ abbrev pub laterFault : ℕ → Code → ReducedRows → Option Refusal
 laterFault at c hs =
     (qubitFault (c .n) then detectedFault c then pairingFault c) then claimFault at c hs then distanceBy at c hs
 
--- The first fault of a record that was read: of its limits, those of its generators alone are asked for. A record
--- within its limits has the same fault as from all checks.
+-- RULES, "The order of the checks": the first fault of a record that was read. Of its limits, those of its generators
+-- alone are asked for, and then come 6 to 14. A record within its limits has the same fault as from all checks.
 unfoldable pub readFault : ℕ → Code → Option Refusal
 readFault at c =
     let e = rowsElimination (c .n) (c .r) (c .g) in checkedRefusal (e .answer) then laterFault at c (e .reduced)

@@ -1,6 +1,5 @@
 -- The generators are passed from the last on. Before the first of them every qubit is a candidate, or none is.
 use mathlib.Core.Path.{_≡_}
-use Prim.Native.Nat.{_-_}
 use native.Mathlib.Omega.{arith}
 use borrow.Author.Needs.{needs}
 use lib.ListN.{length, length-take}
