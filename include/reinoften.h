@@ -7,17 +7,17 @@
  * tells what happened, and nothing else has to be looked at first:
  *
  *   0          done: the call did what it is for, and what it wrote or returned may be used.
- *   1 to 19    refused, with the number of the refusal. Nothing is written, count is 0.
- *   255        `none`: no error of weight at most t has the syndrome, or none on the marked qubits. Only the three
- *              decoding calls answer so. Nothing is written, count is 0.
+ *   1 to 17    refused, with the number of the refusal. Nothing is written, count is 0.
+ *   255        `none`: no error of weight at most t has the syndrome. Only the two decoding calls answer so. Nothing
+ *              is written, count is 0.
  *
  * So a caller that uses a buffer or a returned value only where the number is 0 never uses a stale one.
  *
  * Buffers. A buffer is a pointer and its length in bytes; NULL with length 0 is an empty one. The bytes that a call
  * reads and those that it writes must not overlap. A call writes the first `count` bytes of `out` where its number is 0,
  * leaves the bytes behind them as they were, and leaves all of `out` as it was for every other number. No byte 0 is
- * written behind a text. The one text that tells of refusals is the report: where its input is refused with 1 to 14,
- * 16, 18 or 19, the report says so in its bytes, and the call answers 0, or 17 where `out` is too short for that text.
+ * written behind a text. The one text that tells of refusals is the report: where its input is refused with 1 to 14 or
+ * 16, the report says so in its bytes, and the call answers 0, or 17 where `out` is too short for that text.
  *
  * Records. A code crosses by value. Calls on a record check first that it is within its limits, and refuse it with 15
  * where it is not, so any bytes may be handed over as a record.
@@ -28,13 +28,6 @@
  * that is not refused has the same letters in the line for that syndrome. The correction weighs no more than the error,
  * and correction times error is in the group of the generators, phase aside. For a record from elsewhere a correction
  * is still the earliest error of weight at most t with the syndrome, and no more.
- *
- * What is promised of lost qubits. Take such a record, marks on at most d - 1 of its qubits, and an error that has I
- * on every qubit that is not marked, of whatever weight. Given these marks and the syndrome of the error,
- * reinoften_decode_marked answers 0 where `out` has n bytes or more. A report of that sheet that is not refused has the
- * same letters in the line for that syndrome behind these marks. The correction has I on every qubit that is not
- * marked, and correction times error is in the group of the generators, phase aside. For a record from elsewhere it is
- * still the earliest error on the marked qubits with the syndrome, and no more.
  *
  * The library keeps nothing between calls, allocates nothing, and may be called from any number of threads. Nothing is
  * promised about time. To read a sheet and to make a report takes a search for the distance, which belongs to start-up;
@@ -70,8 +63,6 @@ enum {
     REINOFTEN_RECORD_LIMITS = 15,         /* a record is outside its limits */
     REINOFTEN_SYNDROME = 16,              /* a syndrome is off its form */
     REINOFTEN_SHORT_BUFFER = 17,          /* `out` is shorter than the answer */
-    REINOFTEN_MARKS = 18,                 /* marks are off their form, or no syndrome stands behind their line */
-    REINOFTEN_MARK_COUNT = 19,            /* more than d - 1 qubits are marked */
     REINOFTEN_NONE = 255                  /* there is no correction */
 };
 
@@ -189,23 +180,6 @@ reinoften_answer reinoften_decode(reinoften_code code, const uint8_t *syndrome, 
                                   uint8_t *out, size_t out_length);
 
 /*
- * Decodes a syndrome where it is known which qubits are lost. They are marked by n characters, the first for qubit 1:
- * '1' where the qubit is lost and '0' where it is not. The correction is the earliest error that has the syndrome and I
- * on every qubit that is not marked, whatever its weight.
- *   0          `out` begins with the n letters of the correction; `count` is n, at most REINOFTEN_LETTERS_ROOM.
- *   255        there is no correction.
- *   15         refused.
- *   18         refused: the marks are not exactly n characters, or one is neither '0' nor '1'.
- *   19         refused: more than d - 1 qubits are marked.
- *   16         refused: the syndrome is not exactly r characters, or one is neither '0' nor '1'.
- *   17         refused: `out` is shorter than n bytes. This comes before 255.
- * They are checked in this order.
- */
-reinoften_answer reinoften_decode_marked(reinoften_code code, const uint8_t *marks, size_t marks_length,
-                                         const uint8_t *syndrome, size_t syndrome_length,
-                                         uint8_t *out, size_t out_length);
-
-/*
  * Decodes a syndrome that is given by value: the first generator's bit is the lowest, and bits from r on are 0.
  *   0          `correction` is the correction, with sign +.
  *   255        there is no correction.
@@ -216,9 +190,7 @@ reinoften_answer reinoften_decode_marked(reinoften_code code, const uint8_t *mar
 reinoften_correction reinoften_correct(reinoften_code code, uint32_t syndrome);
 
 /*
- * Writes the report of an input, a sheet and the lines `s=` behind it: at most REINOFTEN_REPORT_ROOM bytes. A line `l=`
- * with n characters may stand right before a line `s=`: it marks the lost qubits for that line, as in
- * reinoften_decode_marked, and 18 and 19 name it.
+ * Writes the report of an input, a sheet and the lines `s=` behind it: at most REINOFTEN_REPORT_ROOM bytes.
  *   0          `out` begins with the `count` bytes of the report, be it of an admitted or of a refused input.
  *   17         refused.
  */

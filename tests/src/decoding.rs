@@ -1,8 +1,7 @@
 //! Syndromes and corrections of a record, which need not be admitted. A correction is found in two ways: by going
 //! through all strings in their order, where there are few qubits, and else by looking its syndrome up in a table of
-//! light strings. On marked qubits it is found by going through all strings on them in their order.
+//! light strings.
 
-use crate::marks::Marks;
 use crate::record::{put, Pauli, Record};
 use crate::sheet::{letters_text, weight, Letter, Refusal, Row};
 use crate::strings::{letters_commute, sorted_strings, FEW_QUBITS};
@@ -26,7 +25,6 @@ pub enum Decoded {
 pub struct Decoder {
     limits: Result<(), Refusal>,
     n: usize,
-    d: usize,
     t: usize,
     generators: Vec<Vec<Letter>>,
     /// the earliest string of each syndrome that a light string has; the syndrome is a number
@@ -42,7 +40,6 @@ impl Decoder {
         Decoder {
             limits: record.within_limits().map(|_| ()),
             n,
-            d: record.d,
             t: record.d.saturating_sub(1) / 2,
             generators: used.map(|row| row.letters(n)).collect(),
             table: OnceLock::new(),
@@ -62,48 +59,15 @@ impl Decoder {
     /// The decode call: 15, then 16, then 17, then the correction's letters at the front of the buffer.
     pub fn decode(&self, characters: &[u8], out: &mut [u8]) -> Result<Decoded, Refusal> {
         self.limits?;
-        let bits = self.read(characters)?;
-        self.write(&self.correction(&bits), out)
-    }
-
-    /// The marked decode call: the checks and the correction of `marked`, then 17, then the correction's letters at the
-    /// front of the buffer.
-    pub fn decode_marked(
-        &self,
-        marks: &[u8],
-        characters: &[u8],
-        out: &mut [u8],
-    ) -> Result<Decoded, Refusal> {
-        self.write(&self.marked(marks, characters)?, out)
-    }
-
-    /// 15, then 18 and 19 of the marks, then 16 of the syndrome; and the earliest string with this syndrome that is I
-    /// on every qubit that is not marked, whatever its weight.
-    pub fn marked(&self, marks: &[u8], characters: &[u8]) -> Result<Option<Vec<Letter>>, Refusal> {
-        self.limits?;
-        let marks = Marks::read(self.n, marks).ok_or(Refusal::new(18, 0))?;
-        if marks.are_too_many(self.d) {
-            return Err(Refusal::new(19, 0));
-        }
-        let bits = self.read(characters)?;
-        Ok(marks.earliest(|letters| self.has_syndrome(letters, &bits)))
-    }
-
-    /// Check 16.
-    fn read(&self, characters: &[u8]) -> Result<Bits, Refusal> {
         let bits = read_syndrome(self.generators.len(), characters);
-        bits.ok_or(Refusal::new(16, 0))
-    }
-
-    /// Check 17, which comes before `none` too, and the letters of what was found at the front of the buffer.
-    pub fn write(&self, found: &Option<Vec<Letter>>, out: &mut [u8]) -> Result<Decoded, Refusal> {
+        let bits = bits.ok_or(Refusal::new(16, 0))?;
         if out.len() < self.n {
             return Err(Refusal::new(17, 0));
         }
-        let Some(letters) = found else {
+        let Some(letters) = self.correction(&bits) else {
             return Ok(Decoded::None);
         };
-        put(&letters_text(letters), out)?;
+        put(&letters_text(&letters), out)?;
         Ok(Decoded::Correction)
     }
 
@@ -121,12 +85,6 @@ impl Decoder {
     fn syndrome(&self, letters: &[Letter]) -> Bits {
         let detects = |row: &Vec<Letter>| !letters_commute(row, letters);
         self.generators.iter().map(detects).collect()
-    }
-
-    /// The same generator by generator, as far as the first that differs.
-    fn has_syndrome(&self, letters: &[Letter], bits: &[bool]) -> bool {
-        let mut rows = self.generators.iter().zip(bits);
-        rows.all(|(row, &bit)| letters_commute(row, letters) != bit)
     }
 
     /// The earliest string of weight at most t with this syndrome.
@@ -232,7 +190,7 @@ fn number(bits: &[bool]) -> u32 {
     bits.iter().fold(0, |sum, &bit| 2 * sum + u32::from(bit))
 }
 
-pub fn character(bit: bool) -> u8 {
+fn character(bit: bool) -> u8 {
     match bit {
         true => b'1',
         false => b'0',
@@ -429,114 +387,6 @@ mod tests {
         let all = of(|c| (c.n, c.r, c.g[31].a) = (usize::MAX, usize::MAX, 1 << 31));
         let (p, a, b) = (1, 1 << 31, 1 << 31);
         assert_eq!(all.correct(1 << 31), Some(Pauli { p, a, b }));
-    }
-
-    /// What the marked decode call gives.
-    fn marked(text: &str, marks: &str, characters: &str) -> String {
-        let (decoder, mut out) = (decoder(text), [b'.'; 32]);
-        match decoder.decode_marked(marks.as_bytes(), characters.as_bytes(), &mut out) {
-            Ok(Decoded::Correction) => {
-                let letters = String::from_utf8(out.to_vec()).unwrap();
-                letters.trim_end_matches('.').to_string()
-            }
-            Ok(Decoded::None) => {
-                assert_eq!(out, [b'.'; 32]);
-                "none".to_string()
-            }
-            Err(refusal) => format!("{} {}", refusal.number, refusal.line),
-        }
-    }
-
-    #[test]
-    fn corrections_are_on_marked_qubits() {
-        assert_eq!(marked(A, "10000", "0001"), "XIIII");
-        assert_eq!(marked(A, "11000", "0001"), "XIIII");
-        assert_eq!(marked(A, "00000", "0001"), "none");
-        assert_eq!(marked(A, "00000", "0000"), "IIIII");
-        assert_eq!(syndrome(A, "XYIII"), "1100");
-        assert_eq!(decoded(A, "1100"), "IIXII");
-        assert_eq!(marked(A, "11000", "1100"), "XYIII");
-        assert_eq!(marked(K, "00", "1"), "none");
-        // without marks there is none, and two letters are more than t
-        assert_eq!(decoded(L, "010001"), "none");
-        assert_eq!(marked(L, "1100000", "010001"), "XZIIIII");
-        assert_eq!(marked(L, "0000011", "010001"), "none");
-    }
-
-    #[test]
-    fn a_lost_block_has_the_earliest_of_its_errors() {
-        // Z on any qubit of a block has one syndrome, and the marks choose among them
-        let z = syndrome(NINE, "ZIIIIIIII");
-        assert_eq!(marked(NINE, "110000000", &z), "IZIIIIIII");
-        assert_eq!(marked(NINE, "100000000", &z), "ZIIIIIIII");
-        assert_eq!(marked(NINE, "101000000", &z), "IIZIIIIII");
-        assert_eq!(marked(NINE, "000100000", &z), "none");
-    }
-
-    #[test]
-    fn the_first_fault_of_a_marked_decode_is_the_answer() {
-        let marks_off_form = ["", "1100", "110000", "1100 ", "11002", "l=110", "1100\n"];
-        for marks in marks_off_form {
-            assert_eq!(marked(A, marks, "0001"), "18 0", "{marks:?}");
-            assert_eq!(marked(A, marks, "2"), "18 0", "{marks:?}");
-        }
-        assert_eq!(marked(A, "11100", "0001"), "19 0");
-        assert_eq!(marked(A, "11111", "0002"), "19 0");
-        assert_eq!(marked(A, "111111", "0001"), "18 0");
-        assert_eq!(marked(K, "01", "0"), "19 0");
-        for characters in ["", "000", "00010", "0002"] {
-            assert_eq!(marked(A, "11000", characters), "16 0", "{characters:?}");
-        }
-        let refusal = |number| Err(Refusal::new(number, 0));
-        let (a, mut out) = (decoder(A), [b'.'; 8]);
-        let mut asked = |marks: &[u8], syndrome: &[u8], room| {
-            a.decode_marked(marks, syndrome, &mut out[..room])
-        };
-        assert_eq!(asked(b"1", b"0", 0), refusal(18));
-        assert_eq!(asked(b"11100", b"0", 0), refusal(19));
-        assert_eq!(asked(b"11000", b"0", 0), refusal(16));
-        assert_eq!(asked(b"11000", b"0001", 4), refusal(17));
-        // where there is no correction n bytes are needed too
-        assert_eq!(asked(b"00000", b"0001", 4), refusal(17));
-        assert_eq!(asked(b"00000", b"0001", 5), Ok(Decoded::None));
-        assert_eq!(&out, b"........");
-        let correction = a.decode_marked(b"11000", b"0001", &mut out);
-        assert_eq!(correction, Ok(Decoded::Correction));
-        assert_eq!(&out, b"XIIII...");
-        let empty = Decoder::of(&Record::EMPTY);
-        assert_eq!(empty.decode_marked(b"", b"", &mut out), refusal(15));
-    }
-
-    /// The definition as it stands: of all strings the earliest that is I on every other qubit and has the syndrome.
-    #[test]
-    fn marked_corrections_are_those_of_all_strings() {
-        let mut random = Random(44);
-        let (mut found, mut none) = (0, 0);
-        for n in (2..=FEW_QUBITS).flat_map(|n| [n; 8]) {
-            let r = 1 + random.index(n - 1);
-            let sheet = samples::any_rows(&mut random, n, r, 7);
-            let decoder = Decoder::of(&Record::of(&sheet));
-            for _ in 0..40 {
-                let count = random.index(n + 1).min(6);
-                let marks = Marks::any(&mut random, n, count);
-                let bits: Bits = (0..r).map(|_| random.below(2) == 1).collect();
-                let characters: Vec<u8> = bits.iter().copied().map(character).collect();
-                let mut strings = sorted_strings(n).iter();
-                let is_match = |letters: &&Vec<Letter>| {
-                    marks.confine(letters) && decoder.syndrome(letters) == bits
-                };
-                let expected = strings.find(is_match).cloned();
-                assert_eq!(
-                    decoder.marked(&marks.text(), &characters),
-                    Ok(expected.clone())
-                );
-                match expected {
-                    Some(_) => found += 1,
-                    None => none += 1,
-                }
-            }
-        }
-        assert!(found > 200 && none > 200, "{found} {none}");
     }
 
     /// The definition as it stands, for any n.

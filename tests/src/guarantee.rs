@@ -1,11 +1,9 @@
 //! The third guarantee as a check of what the programs write: where a sheet is admitted, each error of weight at most t
-//! has a correction, which is no heavier, and the product of the two is in the group, phase aside. So has each error on
-//! at most d - 1 qubits that are marked, and its correction is on these qubits too. Where a distance is refuted, the two
-//! errors that are shown are too light together for it, and their product is a logical error. The check knows nothing
-//! of syndromes: it multiplies letters, and looks for the product among the members.
+//! has a correction, which is no heavier, and the product of the two is in the group, phase aside. Where a distance is
+//! refuted, the two errors that are shown are too light together for it, and their product is a logical error. The
+//! check knows nothing of syndromes: it multiplies letters, and looks for the product among the members.
 
 use crate::logical_errors::Undetected;
-use crate::marks::Marks;
 use crate::product::product;
 use crate::questions::{self, Question};
 use crate::sheet::{self, letters, weight, Letter, Row, Sheet};
@@ -14,25 +12,6 @@ use std::iter;
 /// The cycle of the first error has so many lines. The letters in a buffer of n bytes are the first word of this one.
 const CYCLE_LINES: usize = 6;
 const CYCLE_LETTERS: usize = 3;
-
-/// An error that a code corrects: a light one, or one on qubits that are marked.
-#[derive(Clone, PartialEq, Eq, Debug)]
-pub struct Struck {
-    pub letters: Vec<Letter>,
-    pub marks: Option<Marks>,
-}
-
-impl Struck {
-    pub fn unmarked(letters: Vec<Letter>) -> Struck {
-        let marks = None;
-        Struck { letters, marks }
-    }
-
-    pub fn on(marks: &Marks, letters: Vec<Letter>) -> Struck {
-        let marks = Some(marks.clone());
-        Struck { letters, marks }
-    }
-}
 
 /// How many errors the answer to a case shows to be corrected; or none where it shows one that is not. The first line
 /// says whether the sheet is admitted. Then there is the cycle of the first error, and for each error a line with its
@@ -49,12 +28,12 @@ pub fn errors_corrected(text: &[u8], answer: &[u8]) -> Option<usize> {
     let by_decode = lines.map(|line| line.rsplit(|&byte| byte == b' ').next());
     let shown: Vec<Option<&[u8]>> = iter::once(by_cycle).chain(by_decode).collect();
     let errors = questions.first().into_iter().chain(&questions);
-    let errors: Vec<Struck> = errors.map(|question| error(question, &sheet)).collect();
+    let errors: Vec<Vec<Letter>> = errors.map(|question| error(question, &sheet)).collect();
     each_corrected(&sheet, &errors, &shown).then_some(questions.len())
 }
 
 /// Whether the `c=` lines of a report have a correction of each of the errors, in their order.
-pub fn report_corrects(sheet: &Sheet, errors: &[Struck], report: &[u8]) -> bool {
+pub fn report_corrects(sheet: &Sheet, errors: &[Vec<Letter>], report: &[u8]) -> bool {
     let lines = report.split(|&byte| byte == b'\n');
     let shown: Vec<Option<&[u8]>> = lines
         .filter_map(|line| line.strip_prefix(b"c="))
@@ -76,31 +55,27 @@ pub fn report_refutes(sheet: &Sheet, report: &[u8]) -> bool {
     weight(&one) + weight(&other) < sheet.d && code.has_logical(&letters_product(&one, &other))
 }
 
-fn each_corrected(sheet: &Sheet, errors: &[Struck], shown: &[Option<&[u8]>]) -> bool {
+fn each_corrected(sheet: &Sheet, errors: &[Vec<Letter>], shown: &[Option<&[u8]>]) -> bool {
     let code = Undetected::of(&sheet.generators);
-    let corrected = |(error, shown): (&Struck, &Option<&[u8]>)| {
+    let corrected = |(error, shown): (&Vec<Letter>, &Option<&[u8]>)| {
         let correction = shown.and_then(|shown| letters(shown, sheet.n));
         correction.is_some_and(|correction| corrects(&code, &correction, error))
     };
     shown.len() == errors.len() && errors.iter().zip(shown).all(corrected)
 }
 
-/// The error of a question. Nothing is promised of one that is heavier than t.
-fn error(question: &Question, sheet: &Sheet) -> Struck {
+/// The letters of an error. Nothing is promised of one that is heavier than t.
+fn error(question: &Question, sheet: &Sheet) -> Vec<Letter> {
     let Question::Error(error) = question else {
         panic!("a case with errors alone");
     };
     let error = error.letters(sheet.n);
     assert!(weight(&error) <= (sheet.d - 1) / 2, "too heavy an error");
-    Struck::unmarked(error)
+    error
 }
 
-fn corrects(code: &Undetected, correction: &[Letter], error: &Struck) -> bool {
-    let is_bounded = match &error.marks {
-        Some(marks) => marks.confine(correction),
-        None => weight(correction) <= weight(&error.letters),
-    };
-    is_bounded && code.is_member(&letters_product(correction, &error.letters))
+fn corrects(code: &Undetected, correction: &[Letter], error: &[Letter]) -> bool {
+    weight(correction) <= weight(error) && code.is_member(&letters_product(correction, error))
 }
 
 fn letters_product(left: &[Letter], right: &[Letter]) -> Vec<Letter> {
@@ -114,12 +89,7 @@ fn letters_product(left: &[Letter], right: &[Letter]) -> Vec<Letter> {
 #[cfg(test)]
 mod tests {
     use super::*;
-    use crate::decoding::Decoder;
-    use crate::published;
-    use crate::random::Random;
-    use crate::record::Record;
     use crate::samples::{A, K, NINE};
-    use crate::syndromes::syndrome;
 
     /// A cycle with these letters.
     fn cycle(letters: &str) -> String {
@@ -174,8 +144,7 @@ mod tests {
     #[test]
     fn the_corrections_of_a_report() {
         let sheet = sheet::read_alone(NINE.as_bytes()).unwrap();
-        let errors = ["ZIIIIIIII", "IIIIIIIII"]
-            .map(|error| Struck::unmarked(letters(error.as_bytes(), 9).unwrap()));
+        let errors = ["ZIIIIIIII", "IIIIIIIII"].map(|error| letters(error.as_bytes(), 9).unwrap());
         let corrects = |lines: &str| {
             let report = format!("n=9\nk=1\nd=3\nt=1\nh=+ZIZIIIIII\n{lines}");
             report_corrects(&sheet, &errors, report.as_bytes())
@@ -186,67 +155,6 @@ mod tests {
         assert!(!corrects("c=none\nc=IIIIIIIII\n"));
         assert!(!corrects("c=IIZIIIIII\n"));
         assert!(!report_corrects(&sheet, &errors, b"r=16\nat=13\n"));
-    }
-
-    #[test]
-    fn the_corrections_on_marked_qubits_of_a_report() {
-        let sheet = sheet::read_alone(NINE.as_bytes()).unwrap();
-        let corrects = |marks: &str, correction: &str| {
-            let marks = Marks::read(9, marks.as_bytes()).unwrap();
-            let error = Struck::on(&marks, letters(b"ZXIIIIIII", 9).unwrap());
-            let report = format!("n=9\nk=1\nd=3\nt=1\nc={correction}\n");
-            report_corrects(&sheet, &[error], report.as_bytes())
-        };
-        assert!(corrects("110000000", "ZXIIIIIII"));
-        assert!(corrects("110000000", "IYIIIIIII"));
-        // as good, but on another qubit
-        assert!(corrects("111000000", "IXZIIIIII"));
-        assert!(!corrects("110000000", "IXZIIIIII"));
-        assert!(!corrects("110000000", "XZIIIIIII"));
-        assert!(!corrects("110000000", "none"));
-    }
-
-    /// On every pattern of at most d - 1 marks every error, where these are few; and else on any patterns any errors.
-    #[test]
-    fn errors_on_marked_qubits_of_published_codes_are_corrected() {
-        const FEW: usize = 10;
-        const SOME: usize = 60;
-        let mut random = Random(45);
-        let (mut corrected, mut heavy) = (0, 0);
-        let codes = published::all().into_iter();
-        for sheet in codes.chain([published::golay_and_a_qubit()]) {
-            let (n, d) = (sheet.n, sheet.d);
-            let errors: Vec<Struck> = match n <= FEW {
-                true => {
-                    let patterns = Marks::every(n).filter(|marks| !marks.are_too_many(d));
-                    let all = |marks: Marks| {
-                        let strings = marks.every_string().into_iter();
-                        strings.map(move |letters| Struck::on(&marks, letters))
-                    };
-                    patterns.flat_map(all).collect()
-                }
-                false => {
-                    let any = |_| {
-                        let marks = Marks::any(&mut random, n, d - 1);
-                        Struck::on(&marks, marks.any_string(&mut random))
-                    };
-                    (0..SOME).map(any).collect()
-                }
-            };
-            let record = Record::of(&sheet);
-            let (code, decoder) = (Undetected::of(&sheet.generators), Decoder::of(&record));
-            for error in errors {
-                let (minus, letters) = (false, error.letters.clone());
-                let characters = syndrome(&record, &Row { minus, letters });
-                let marks = error.marks.as_ref().expect("marks").text();
-                let found = decoder.marked(&marks, &characters);
-                let correction = found.ok().flatten().expect("a correction");
-                assert!(corrects(&code, &correction, &error), "{error:?}");
-                corrected += 1;
-                heavy += usize::from(weight(&correction) > (d - 1) / 2);
-            }
-        }
-        assert!(corrected > 5_000 && heavy > 2_000, "{corrected} {heavy}");
     }
 
     #[test]

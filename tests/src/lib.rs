@@ -16,7 +16,6 @@ pub mod group;
 pub mod guarantee;
 pub mod lists;
 pub mod logical_errors;
-pub mod marks;
 pub mod parts;
 pub mod product;
 pub mod program;

@@ -120,9 +120,6 @@ mod tests {
         for number in 1..=17 {
             assert!(answers.contains(&format!(" r={number} at=")), "{number}");
         }
-        for number in [18, 19] {
-            assert!(answers.contains(&format!("\nr={number}\nat=")), "{number}");
-        }
         let changes: HashSet<usize> = cases.iter().map(|case| case.change).collect();
         assert_eq!(changes.len(), LAST_CHANGE + 1);
     }

@@ -1,10 +1,8 @@
-//! The report: what is said of a sheet and the lines behind it, as text. These are `s=` lines, and an `l=` line may
-//! stand before each of them.
+//! The report: what is said of a sheet and the `s=` lines behind it, as text.
 
 use crate::admission::{self, Fault};
 use crate::decoding::{Decoded, Decoder};
 use crate::group::canonical_text;
-use crate::marks::Marks;
 use crate::record::Record;
 use crate::sheet::{letters_text, line, read_lines, Refusal, Sheet};
 
@@ -13,7 +11,7 @@ pub fn report(input: &[u8]) -> Vec<u8> {
     lines(input).unwrap_or_else(|fault| refused(&fault))
 }
 
-/// Checks 1 to 5, then 6 to 14, and then 16, 18 and 19 of the lines behind w.
+/// Checks 1 to 5, then 6 to 14, and then 16 of each line behind w.
 fn lines(input: &[u8]) -> Result<Vec<u8>, Fault> {
     let (sheet, used) = read_lines(input)?;
     admission::check(&sheet, sheet.lines())?;
@@ -30,65 +28,31 @@ fn numbers(sheet: &Sheet) -> Vec<u8> {
     format!("n={n}\nk={k}\nd={d}\nt={t}\n").into_bytes()
 }
 
-/// One line for each syndrome behind w.
+/// One line for each that stands behind w.
 fn corrections(sheet: &Sheet, behind: &[u8]) -> Result<Vec<u8>, Refusal> {
     let decoder = Decoder::of(&Record::of(sheet));
-    let texts = behind.split_inclusive(|&byte| byte == b'\n');
-    let mut numbered = (sheet.lines() + 1..).zip(texts);
     let mut lines = Vec::new();
-    while let Some((at, text)) = numbered.next() {
-        let mut letters = vec![b'.'; sheet.n];
-        let (at, decoded) = match text.starts_with(b"l=") {
-            false => (at, decode(&decoder, text, &mut letters)),
-            true => {
-                let behind = numbered.next();
-                let marks = marks(sheet, at, text, behind.map(|(_, text)| text))?;
-                let (at, text) = behind.expect("a line that begins `s=`");
-                (at, decode_marked(&decoder, &marks, text, &mut letters))
-            }
-        };
-        let correction = match decoded.ok_or(Refusal::new(16, at))? {
-            Decoded::Correction => letters,
-            Decoded::None => b"none".to_vec(),
-        };
+    for (at, text) in behind.split_inclusive(|&byte| byte == b'\n').enumerate() {
+        let correction =
+            syndrome(text).and_then(|characters| correction(&decoder, sheet.n, characters));
+        let correction = correction.ok_or(Refusal::new(16, sheet.lines() + 1 + at))?;
         lines.extend(line("c=", &correction));
     }
     Ok(lines)
 }
 
-/// The marks of an `l=` line, with the line behind it: 18 where it is off its form, 18 where that line does not begin
-/// `s=` or is not there, and then 19.
-fn marks(sheet: &Sheet, at: usize, text: &[u8], behind: Option<&[u8]>) -> Result<Marks, Refusal> {
-    let marks = value(text, b"l=").and_then(|characters| Marks::read(sheet.n, characters));
-    let marks = marks.ok_or(Refusal::new(18, at))?;
-    if !behind.is_some_and(|text| text.starts_with(b"s=")) {
-        return Err(Refusal::new(18, at));
+/// What stands between `s=` and the line feed.
+fn syndrome(line: &[u8]) -> Option<&[u8]> {
+    line.strip_prefix(b"s=")?.strip_suffix(b"\n")
+}
+
+/// The letters of the correction, or the word for there being none; nothing where the characters are no syndrome.
+fn correction(decoder: &Decoder, n: usize, characters: &[u8]) -> Option<Vec<u8>> {
+    let mut letters = vec![b'.'; n];
+    match decoder.decode(characters, &mut letters).ok()? {
+        Decoded::Correction => Some(letters),
+        Decoded::None => Some(b"none".to_vec()),
     }
-    if marks.are_too_many(sheet.d) {
-        return Err(Refusal::new(19, at));
-    }
-    Ok(marks)
-}
-
-/// What stands between the key and the line feed.
-fn value<'a>(line: &'a [u8], key: &[u8]) -> Option<&'a [u8]> {
-    line.strip_prefix(key)?.strip_suffix(b"\n")
-}
-
-/// What is decoded, and the letters of a correction; nothing where the line is no syndrome's.
-fn decode(decoder: &Decoder, text: &[u8], letters: &mut [u8]) -> Option<Decoded> {
-    decoder.decode(value(text, b"s=")?, letters).ok()
-}
-
-fn decode_marked(
-    decoder: &Decoder,
-    marks: &Marks,
-    text: &[u8],
-    letters: &mut [u8],
-) -> Option<Decoded> {
-    let characters = value(text, b"s=")?;
-    let decoded = decoder.decode_marked(&marks.text(), characters, letters);
-    decoded.ok()
 }
 
 /// The number and the line, and with 14 the two errors.
@@ -237,138 +201,12 @@ mod tests {
     }
 
     #[test]
-    fn marks_are_for_the_line_behind_them_alone() {
-        let lines = [
-            ("s=1100\n", "c=IIXII\n"),
-            ("l=11000\ns=1100\n", "c=XYIII\n"),
-            ("l=00000\ns=1100\n", "c=none\n"),
-            ("l=00000\ns=0000\n", "c=IIIII\n"),
-            ("l=00011\ns=1100\n", "c=IIIYX\n"),
-            ("l=00100\ns=1100\n", "c=IIXII\n"),
-        ];
-        for (one, its) in lines {
-            for (other, others) in lines {
-                let input = format!("{A}{one}{other}{one}");
-                let report = of_five_qubits(&format!("{its}{others}{its}"));
-                assert_eq!(of(&input), report, "{input}");
-            }
-        }
-    }
-
-    #[test]
-    fn an_l_line_is_18_where_it_is_off_its_form() {
-        let off_form = [
-            "l=\n",
-            "l=1100\n",
-            "l=110000\n",
-            "l=1100 \n",
-            "l=11002\n",
-            "l=1100O\n",
-            "l=11000\r\n",
-            "l=11000 \n",
-            "l==1100\n",
-            "l= 11000\n",
-            "l=XYIII\n",
-            "l=110\n00\n",
-            "l=1100\0\n",
-        ];
-        for text in off_form {
-            for behind in ["", "s=0000\n", "l=11000\ns=0000\n", "s=2\n", "\n"] {
-                let input = format!("{A}{text}{behind}");
-                assert_eq!(of(&input), refusal(18, 10), "{input}");
-                let input = format!("{A}l=11000\ns=0001\n{text}{behind}");
-                assert_eq!(of(&input), refusal(18, 12), "{input}");
-            }
-        }
-        // no line feed, at the end of the input and before it
-        for text in ["l=", "l=1", "l=1100", "l=11000", "l=110000"] {
-            assert_eq!(of(A.to_string() + text), refusal(18, 10), "{text:?}");
-            assert_eq!(of(A.to_string() + text + "s=0000\n"), refusal(18, 10));
-        }
-        let beyond = [A.as_bytes(), b"l=1100\xff\ns=0000\n"].concat();
-        assert_eq!(report(&beyond), refusal(18, 10).as_bytes());
-    }
-
-    #[test]
-    fn an_l_line_is_18_where_the_next_line_does_not_begin_as_a_syndrome() {
-        let behind = [
-            "",
-            "\n",
-            "s",
-            "s\n",
-            "S=0000\n",
-            " s=0000\n",
-            "s:0000\n",
-            "c=0000\n",
-            "l=11000\ns=0000\n",
-            "l=11000\n",
-            "l=2\n",
-            "l",
-            "0000\n",
-            "w=IYYIX\n",
-        ];
-        for text in behind {
-            // too many marks come behind this
-            for marks in ["00000", "11000", "11111"] {
-                let input = format!("{A}l={marks}\n{text}");
-                assert_eq!(of(&input), refusal(18, 10), "{input}");
-                let input = format!("{A}s=0000\nl={marks}\n{text}");
-                assert_eq!(of(&input), refusal(18, 11), "{input}");
-            }
-        }
-    }
-
-    #[test]
-    fn more_than_d_minus_1_marks_are_19_before_the_syndrome_is_read() {
-        for marks in ["11100", "00111", "11111"] {
-            for behind in ["s=0000\n", "s=2\n", "s=", "s=0000\r\n", "s=0000\ns=2\n"] {
-                let input = format!("{A}s=0001\nl={marks}\n{behind}");
-                assert_eq!(of(&input), refusal(19, 11), "{input}");
-            }
-        }
-        assert_eq!(of(K.to_string() + "l=10\ns=0\n"), refusal(19, 7));
-        let none = K.to_string() + "l=00\ns=0\nl=00\ns=1\n";
-        assert_eq!(of(none), of(K) + "c=II\nc=none\n");
-    }
-
-    #[test]
-    fn a_syndrome_behind_marks_has_its_own_16() {
-        for text in [
-            "s=\n",
-            "s=000\n",
-            "s=00000\n",
-            "s=0002\n",
-            "s=0000",
-            "s=0000\r\n",
-        ] {
-            let input = format!("{A}l=11000\n{text}");
-            assert_eq!(of(&input), refusal(16, 11), "{input}");
-            let input = format!("{A}l=11000\ns=0000\nl=00000\n{text}");
-            assert_eq!(of(&input), refusal(16, 13), "{input}");
-        }
-        // what does not begin `l=` is no line of marks
-        for text in [
-            "l",
-            "l\n",
-            "L=11000\n",
-            " l=11000\n",
-            "l:11000\n",
-            "l =11000\n",
-        ] {
-            let input = format!("{A}{text}");
-            assert_eq!(of(&input), refusal(16, 10), "{input}");
-        }
-    }
-
-    #[test]
     fn faults_of_the_sheet_come_before_16() {
         assert_eq!(of(CLASH.to_string() + "\n"), refusal(6, 4));
         assert_eq!(of(I.to_string() + "s=2\n"), refusal(7, 5));
         let heavier = samples::starred()[2].clone() + "s=";
         assert_eq!(of(heavier), refusal(14, 9) + "e=IIXYI\nf=IIIIX\n");
         assert_eq!(of(A.replace("w=", "v=") + "s=2\n"), refusal(2, 9));
-        assert_eq!(of(CLASH.to_string() + "l=\n"), refusal(6, 4));
-        assert_eq!(of(I.to_string() + "l=1111\ns=000\n"), refusal(7, 5));
     }
 
     #[test]

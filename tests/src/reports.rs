@@ -5,20 +5,18 @@
 
 mod codes;
 mod damaged;
-mod every_mark;
 mod failing;
 mod fixed;
 mod generated;
 mod judgement;
 mod occurred;
 
-use crate::guarantee::Struck;
 use crate::program::{run, text};
 use crate::random::seed_of_clock;
 use crate::report::report;
+use crate::sheet::Letter;
 use crate::tally::told;
 pub use codes::MOST_BYTES;
-pub use every_mark::sheets_of_few_qubits;
 pub use generated::ROUND;
 use judgement::fault;
 use occurred::Occurred;
@@ -41,9 +39,8 @@ struct Input {
     /// by which it is found again
     name: String,
     bytes: Vec<u8>,
-    /// where the `s=` lines are the syndromes of errors that the code corrects: these, and where there are `l=` lines
-    /// the marks
-    errors: Vec<Struck>,
+    /// where the `s=` lines are the syndromes of errors that the code corrects: these
+    errors: Vec<Vec<Letter>>,
     /// the report that is kept with it
     kept: Option<Vec<u8>>,
     /// whether it comes in several pieces, one after the other
@@ -90,7 +87,7 @@ pub fn input_of_seed(seed: u64) -> Vec<u8> {
 pub fn compare(program: &Path, seed: Option<u64>) -> ExitCode {
     let seed = seed.unwrap_or_else(seed_of_clock);
     println!("seed {seed}");
-    let inputs = [fixed::inputs(), every_mark::inputs()].concat();
+    let inputs = fixed::inputs();
     let fixed = judged(program, inputs.len(), &|at| inputs[at].clone());
     let of_seeds = judged(program, generated::COUNT, &|at| {
         generated::input(seed.wrapping_add(at as u64))
@@ -178,7 +175,7 @@ fn worked(
             Some(fault) => tally.failed(at, || shown(&input, &output, fault)),
             None => tally.passed += 1,
         }
-        tally.occurred.see(&expected, &input.errors);
+        tally.occurred.see(&expected, input.errors.len());
     }
     tally
 }

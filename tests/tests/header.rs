@@ -201,7 +201,7 @@ fn constant(text: &str, name: &str) -> usize {
 #[test]
 fn functions_agree() {
     let declared = c_functions();
-    assert_eq!(declared.len(), 8);
+    assert_eq!(declared.len(), 7);
     let calls = rattle("rack");
     let exported = "#[no_mangle] pub extern \"C\" fn ";
     assert_eq!(declared, functions(&calls, exported, RATTLE));
@@ -227,7 +227,7 @@ fn numbers_agree() {
     let mut declared = c_numbers();
     declared.retain(|name, _| !name.ends_with("_ROOM"));
     let mut answers = refusals();
-    assert_eq!(answers.len(), 19);
+    assert_eq!(answers.len(), 17);
     answers.insert("DONE".to_string(), 0);
     answers.insert(
         "NONE".to_string(),

@@ -61,7 +61,7 @@ shifted m front room h = by-test (leb m (room - front)) refl
 
 module _ (c : Code) (hs : ReducedRows) (words : LetterWords) (s : List ℕ) where
   abbrev pub corrections : List ℕ
-  corrections = corrections_text words (radius c) c.r (c.d - 1) s
+  corrections = corrections_text words (radius c) c.r s
 
   pub account-parts : code_by c hs ++ corrections ≡ account_by c hs words s
   unfolding account_by
@@ -75,10 +75,10 @@ module _ (c : Code) (hs : ReducedRows) (words : LetterWords) (s : List ℕ) wher
     front-unfit h = sym (lt-leb (length (account_by c hs words s)) room (omega (arith, length-account)))
 
     pub rest-decides : 2 ≤ words.qubits → words.qubits ≤ most_qubits → length (code_by c hs) ≤ room
-        → {fits : Bool} → fits ≡ corrections_fit words (radius c) c.r (c.d - 1) s (room - length (code_by c hs))
+        → {fits : Bool} → fits ≡ corrections_fit words (radius c) c.r s (room - length (code_by c hs))
         → fits ≡ leb (length (account_by c hs words s)) room
     rest-decides low high h told =
-        told ∙ sym (fit-counted words (radius c) c.r (c.d - 1) s (room - length (code_by c hs)) low high refl)
+        told ∙ sym (fit-counted words (radius c) c.r s (room - length (code_by c hs)) low high refl)
         ∙ shifted (length corrections) (length (code_by c hs)) room h
         ∙ ap (λ (m : ℕ). leb m room) (sym length-account)
 

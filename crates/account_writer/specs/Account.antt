@@ -1,5 +1,5 @@
 -- The account of a code in a report, and the call for it.
-use Rattle.std.specs.Prelude.{List, ◌++◌, ℕ, ◌-◌}
+use Rattle.std.specs.Prelude.{List, ◌++◌, ℕ}
 use Prim.Native.Char.{code}
 use Rattle.code_record.specs.declared.Code.{Code}
 use Rattle.code_record.specs.Record.{logical_count, radius, qubit_fault}
@@ -17,7 +17,7 @@ use Rattle.correction_lines.specs.CorrectionLines.{corrections_text}
 -- RULES, "The report": the numbers and the canonical generators of a code, then the corrections for the syndromes with
 -- whose lines the bytes begin.
 unfoldable pub account_text : Code → List ℕ → List ℕ
-account_text c s = code_text c ++ corrections_text (syndrome_words c) (radius c) c.r (c.d - 1) s
+account_text c s = code_text c ++ corrections_text (syndrome_words c) (radius c) c.r s
 
 -- The same with rows and words that were made before.
 unfoldable pub code_by : Code → ReducedRows → List ℕ
@@ -25,7 +25,7 @@ code_by c hs =
     header_text c.n (logical_count c) c.d (radius c) ++ rows_text (code "h") c.n (rows_in hs)
 
 unfoldable pub account_by : Code → ReducedRows → LetterWords → List ℕ → List ℕ
-account_by c hs words s = code_by c hs ++ corrections_text words (radius c) c.r (c.d - 1) s
+account_by c hs words s = code_by c hs ++ corrections_text words (radius c) c.r s
 
 -- RULES, "Calls and buffers": the account by rows that are given: 15 where n is not 2 to 24, then 17, then the lines
 -- and their length.

@@ -1,5 +1,5 @@
 // The writer of a code's account in a report: its numbers, its canonical generators, and the corrections for the
-// syndromes behind its sheet. The words of the code's letters are made once for all of them.
+// syndromes behind its sheet. The words of the code's letters are made once for all syndromes.
 ghost use Rattle.std.specs.Prelude.{◌≡◌, ◌≤◌, leb, length};
 ghost use Rattle.code_record.specs.Record.{most_qubits};
 ghost use Rattle.sheet.specs.Text.{laid};
@@ -12,7 +12,6 @@ use corrections_writer::write_corrections;
 use header_writer::{header_length, write_header};
 use letter_sums::LetterWords;
 use letter_words::syndrome_words;
-use marks_reader::most_marks;
 use reduced_rows::ReducedRows;
 use refusals::{Refusal, Written};
 use rows_writer::{rows_there, write_rows};
@@ -46,26 +45,19 @@ fn account_fits(
     code: Code,
     reduced: ReducedRows,
     words: LetterWords,
-    lines: &[u8],
+    syndromes: &[u8],
     room: usize,
 ) -> bool
     requires n_le_most_qubits { code.n ≤ most_qubits }
     requires le_qubits { 2 ≤ words.qubits }
     requires qubits_le_most_qubits { words.qubits ≤ most_qubits }
-    ensures { result ≡ leb (length (account_by code reduced words lines.now)) room }
+    ensures { result ≡ leb (length (account_by code reduced words syndromes.now)) room }
 {
     let front = code_length(code, reduced);
     if room < front {
         return false;
     }
-    corrections_fit(
-        words,
-        radius(code),
-        code.r,
-        most_marks(code.d),
-        lines,
-        room - front,
-    )
+    corrections_fit(words, radius(code), code.r, syndromes, room - front)
 }
 
 // All lines, where there is room for them.
@@ -73,31 +65,29 @@ fn account_lines(
     code: Code,
     reduced: ReducedRows,
     words: LetterWords,
-    lines: &[u8],
+    syndromes: &[u8],
     out: &mut [u8],
 ) -> usize
     requires le_n { 2 ≤ code.n }
     requires n_le_most_qubits { code.n ≤ most_qubits }
     requires le_qubits { 2 ≤ words.qubits }
     requires qubits_le_most_qubits { words.qubits ≤ most_qubits }
-    requires lines_in_bounds { length (account_by code reduced words lines.now) ≤ length out.old }
-    ensures value { result ≡ length (account_by code reduced words lines.now) }
-    ensures out_after { out.new ≡ laid (account_by code reduced words lines.now) out.old }
+    requires syndromes_in_bounds { length (account_by code reduced words syndromes.now) ≤ length out.old }
+    ensures value { result ≡ length (account_by code reduced words syndromes.now) }
+    ensures out_after { out.new ≡ laid (account_by code reduced words syndromes.now) out.old }
 {
     let mut end = code_lines(code, reduced, out);
-    let t = radius(code);
-    let most = most_marks(code.d);
-    end += write_corrections(words, t, code.r, most, lines, &mut out[end..]).count();
+    end += write_corrections(words, radius(code), code.r, syndromes, &mut out[end..]).count();
     end
 }
 
-// The account of a code by canonical generators that were found, and of the lines that ask for corrections with which
-// the bytes begin, into an output buffer: 15 where no code has as many qubits, then 17 where the buffer is shorter than
-// the lines, then the lines' bytes and their count. It makes no other check of the code, since who has its canonical
-// generators has made them.
-pub fn write_account(code: Code, reduced: ReducedRows, lines: &[u8], out: &mut [u8]) -> Written
-    ensures value { result ≡ (write_account code reduced lines.now out.old).answer }
-    ensures out_after { out.new ≡ (write_account code reduced lines.now out.old).buffer }
+// The account of a code by canonical generators that were found, and of the `s=` lines with which the bytes begin, into
+// an output buffer: 15 where no code has as many qubits, then 17 where the buffer is shorter than the lines, then the
+// lines' bytes and their count. It makes no other check of the code, since who has its canonical generators has made
+// them.
+pub fn write_account(code: Code, reduced: ReducedRows, syndromes: &[u8], out: &mut [u8]) -> Written
+    ensures value { result ≡ (write_account code reduced syndromes.now out.old).answer }
+    ensures out_after { out.new ≡ (write_account code reduced syndromes.now out.old).buffer }
 {
     if code.n < 2 {
         return Written::Refused(Refusal::RecordLimits);
@@ -106,8 +96,8 @@ pub fn write_account(code: Code, reduced: ReducedRows, lines: &[u8], out: &mut [
         return Written::Refused(Refusal::RecordLimits);
     }
     let words = syndrome_words(code);
-    if !account_fits(code, reduced, words, lines, out.len()) {
+    if !account_fits(code, reduced, words, syndromes, out.len()) {
         return Written::Refused(Refusal::ShortBuffer);
     }
-    Written::Count(account_lines(code, reduced, words, lines, out))
+    Written::Count(account_lines(code, reduced, words, syndromes, out))
 }

@@ -1,131 +1,115 @@
--- The lines against the report's definitions: what is asked is read as its masks, for which the correction by words is
--- that of its bits; and then one after the other.
+-- The lines against the report's definitions: the line of one syndrome is read as its mask, whose correction by words
+-- is that of its bits; and then line by line.
+use mathlib.Core.Bool.{Bool, true}
 use mathlib.Core.List.{List, [], ◌∷◌, ◌++◌, flat_map}
-use mathlib.Core.Bool.{true}
 use mathlib.Core.Option.{Option, none, some}
 use mathlib.Core.Path.{◌≡◌, refl, ap, ap₂, sym, ◌∙◌}
-use Prim.Native.Nat.{ℕ, ◌-◌, ◌≤◌}
+use Prim.Native.Nat.{ℕ, ◌+◌, ◌≤◌}
 use native.Mathlib.Omega.{arith}
 use lib.ListN.{length, drop}
 use Rattle.letters.specs.declared.Letter.{Letter}
 use Rattle.letters.specs.Lists.{bytes}
 use Rattle.pauli.specs.Letters.{of_letters}
+use Rattle.pauli.specs.Syndrome.{mask_of_bits}
 use Rattle.refusals.specs.declared.Refusal.{Refusal}
 use Rattle.code_record.specs.declared.Code.{Code}
-use Rattle.code_record.specs.Record.{row_room, radius, generators, within_limits, Sized}
+use Rattle.code_record.specs.Record.{row_room, radius, within_limits, Sized}
 use Rattle.code_record.proofs.Limits.{limits}
 use Rattle.sheet.specs.Reader.{got, stop}
 use Rattle.sheet.specs.Text.{line, line_feed}
 use Rattle.sheet.proofs.Lengths.{length-generators}
 use Rattle.sheet.proofs.Outcome.{what_was-got}
 use Rattle.row_writer.proofs.Lines.{letters-keyed}
-use Rattle.stabilizer.proofs.All.{All}
-use Rattle.letter_words.specs.Words.{word_qubits, syndrome_words}
+use Rattle.letter_words.specs.Words.{syndrome_words}
+use Rattle.decoder.specs.Correction.{correction}
+use Rattle.decoder.proofs.Earliest.{correction-is-earliest}
 use Rattle.decoder.proofs.StringText.{string-text}
-use Rattle.corrections.specs.Corrections.{correction_of}
+use Rattle.syndrome_reader.specs.declared.SyndromeRead.{SyndromeRead}
+use Rattle.corrections.specs.Corrections.{correction_of, correction_by}
 use Rattle.corrections.proofs.ByValue.{corrections-by-value, qubits-have-words}
-use Rattle.marked_corrections.proofs.ByValue.{marked-by-value}
-use Rattle.reporting.specs.Report.{Asked as AskedBits, unmarked, marked, asked_lines, answer_to}
 use Rattle.reporting.specs.Report.{correction_value, correction_line}
-use Rattle.reporting.specs.Statements.{asked_text, all_asked_text, MayBeAsked}
-use Rattle.reporting.proofs.Fits.{length-answer}
-use Rattle.reporting.proofs.Steps.{all-asked-outcome}
-use Rattle.reporting.proofs.Syndromes.{asked-read}
-use Rattle.asked_lines.specs.declared.Asked.{Asked}
-use Rattle.asked_lines.specs.declared.AskedRead.{AskedRead}
-use Rattle.asked_lines.specs.AskedLines.{asked_read, read_fault}
-use Rattle.asked_lines.specs.Statements.{masks_of, AskedAreRead}
-use Rattle.asked_lines.proofs.InReports.{asked-lines-are-read}
+use Rattle.reporting.specs.Statements.{syndrome_line_text, syndromes_text}
+use Rattle.reporting.proofs.Syndromes.{HaveRBits, line_read, syndromes-outcome}
+use Rattle.syndrome_lines.specs.SyndromeLines.{mask_line, syndrome_length, lineFault}
+use Rattle.syndrome_lines.proofs.InReports.{syndrome-lines-are-read}
 use Rattle.correction_writer.specs.Lines.{correction_text}
-use Rattle.correction_lines.specs.CorrectionLines.{answer_by}
 use Rattle.correction_lines.specs.Statements.{CorrectionLinesAreReported}
-use Rattle.correction_lines.proofs.Lines.{read_here, line_for, lines_for, lines-ended, lines_more}
+use Rattle.correction_lines.proofs.Lines.{line_for, lines_for, lines-ended, lines_more}
 
-same_asked : {A : Type 0} {a a' : A} {rest rest' : List ℕ} → got a rest ≡ got a' rest' → (a ≡ a') × (rest ≡ rest')
-same_asked e = (cc, cc)
+same_line : {A : Type 0} {a a' : A} {rest rest' : List ℕ} → got a rest ≡ got a' rest' → (a ≡ a') × (rest ≡ rest')
+same_line e = (cc, cc)
 
 not_stopped : {A : Type 0} {a : A} {rest : List ℕ} {refusal : Refusal} → got a rest ≡ stop refusal → ⊥
 not_stopped e = let z : ◌≡◌ {A = ℕ} 0 1 = cc in absurd (omega arith)
 
--- The line of a correction has the letters of the string that was found.
-found-text : (n : ℕ) (found : Option (List Letter)) → ((s : List Letter) → found ≡ some s → length s ≡ n)
-    → correction_text n (correction_of found) ≡ line "c=" (correction_value found)
-unfolding correction_text correction_of correction_value bytes line line_feed
-found-text n none count = refl
-found-text n (some s) count =
-    letters-keyed "c=" 99 n (of_letters s) refl ∙ ap (line "c=") (string-text n s (count s refl))
-
 module _ (c : Code) (sized : Sized c) (within : within_limits c ≡ true) where
-  read-law : AskedAreRead c
-  read-law =
-      let l = limits c within in
-      asked-lines-are-read c (omega (arith, l.qubits)) (omega (arith, l.qubits, l.generator_count))
+  -- ---- one syndrome
 
-  rows : c.r ≡ length (generators c)
-  rows = sym (length-generators c sized (limits c within))
+  module _ (bits : List Bool) where
+    -- The line of its correction has the letters of the string that was found.
+    found-text : correction_text c.n (correction_of (correction c bits)) ≡ correction_line c bits
+    unfolding correction_text correction_of correction_line correction_value bytes line line_feed
+    found-text = by-found (correction c bits) refl
+      where
+        by-found : (found : Option (List Letter)) → correction c bits ≡ found
+            → correction_text c.n (correction_of found) ≡ line "c=" (correction_value found)
+        by-found none e = refl
+        by-found (some s) e =
+            letters-keyed "c=" 99 c.n (of_letters s) refl
+            ∙ ap (line "c=") (string-text c.n s ((correction-is-earliest c bits).found s e).0.letters)
 
-  -- ---- one of them
+    module _ (count : length bits ≡ c.r) where
+      by_bits : correction_by (syndrome_words c) (radius c) (mask_of_bits bits) ≡ correction_of (correction c bits)
+      by_bits =
+          corrections-by-value.by_words c (mask_of_bits bits)
+          ∙ corrections-by-value.of_bits c bits within (count ∙ sym (length-generators c sized (limits c within)))
 
-  by_bits : (one : AskedBits) → MayBeAsked c one
-      → answer_by (syndrome_words c) (radius c) (masks_of one) ≡ correction_of (answer_to c one)
-  unfolding answer_by masks_of answer_to
-  by_bits (unmarked bits) count =
-      corrections-by-value.by_words c _ ∙ corrections-by-value.of_bits c bits within (count ∙ rows)
-  by_bits (marked marks bits) (counted, few, count) =
-      marked-by-value.by_words c _ _ ∙ marked-by-value.of_bits c marks bits within counted (count ∙ rows)
+      line-answered : line_for (syndrome_words c) (radius c) c.r (mask_of_bits bits) ≡ correction_line c bits
+      unfolding syndrome_words
+      line-answered = ap₂ correction_text (qubits-have-words c within) by_bits ∙ found-text
 
-  module _ (one : AskedBits) (may : MayBeAsked c one) where
-    line-answered : line_for (syndrome_words c) (radius c) c.r (c.d - 1) (masks_of one) ≡ correction_line c one
-    unfolding syndrome_words correction_line
-    line-answered =
-        ap₂ correction_text (qubits-have-words c within) (by_bits one may)
-        ∙ found-text c.n (answer_to c one) (length-answer c one)
+      module _ (rest : List ℕ) where
+        abbrev text : List ℕ
+        text = syndrome_line_text bits ++ rest
 
-    module _ (rest : List ℕ) where
-      abbrev text : List ℕ
-      text = asked_text one ++ rest
+        few : c.r ≤ row_room
+        few = let l = limits c within in omega (arith, l.qubits, l.generator_count)
 
-      -- It is read as its masks, and the rest stands behind it.
-      abbrev IsRead : Type 0
-      IsRead =
-          (used : ℕ) × (asked_read c.n c.r (c.d - 1) text ≡ AskedRead.Got used (masks_of one))
-          × (drop used text ≡ rest)
+        -- Its line is read as its mask, and the rest stands behind it.
+        abbrev IsRead : Type 0
+        IsRead =
+            (mask_line c.r text ≡ SyndromeRead.Mask (mask_of_bits bits)) × (drop (syndrome_length c.r) text ≡ rest)
 
-      off : (refusal : Refusal) → read_fault 0 (asked_read c.n c.r (c.d - 1) text) ≡ some refusal → IsRead
-      off refusal e =
-          absurd (not_stopped (sym (asked-read c 0 one rest may) ∙ read-law.refused 0 text refusal e))
+        line-masked : IsRead
+        unfolding lineFault
+        line-masked = by-line (mask_line c.r text) refl
+          where
+            by-line : (x : SyndromeRead) → mask_line c.r text ≡ x → IsRead
+            by-line (SyndromeRead.Mask m) e =
+                let told = syndrome-lines-are-read.line c 0 text m e in
+                let same = same_line (sym told.1 ∙ line_read c 0 bits rest count) in
+                (e ∙ ap SyndromeRead.Mask (told.2 ∙ ap mask_of_bits same.0), same.1)
+            by-line SyndromeRead.Malformed e =
+                let off = syndrome-lines-are-read.malformed c 0 text _ few (ap (lineFault 0) e) in
+                absurd (not_stopped (sym (line_read c 0 bits rest count) ∙ off))
 
-      is_read : IsRead
-      unfolding read_fault
-      is_read = by_answer (asked_read c.n c.r (c.d - 1) text) refl
-        where
-          by_answer : (x : AskedRead) → asked_read c.n c.r (c.d - 1) text ≡ x → IsRead
-          by_answer (AskedRead.Got used asked) e =
-              let (other, line, masks) = read-law.read 0 text used asked e in
-              let same = same_asked (sym line ∙ asked-read c 0 one rest may) in
-              (used, e ∙ ap (AskedRead.Got used) (masks ∙ ap masks_of same.0), same.1)
-          by_answer AskedRead.NoSyndrome e = off _ (ap (read_fault 0) e)
-          by_answer AskedRead.NoMarks e = off _ (ap (read_fault 0) e)
-          by_answer AskedRead.TooManyMarks e = off _ (ap (read_fault 0) e)
-          by_answer AskedRead.NoSyndromeBehind e = off _ (ap (read_fault 0) e)
-
-  -- ---- all of them
+  -- ---- all syndromes
 
   abbrev lines : List ℕ → List ℕ
-  lines = lines_for (syndrome_words c) (radius c) c.r (c.d - 1)
+  lines = lines_for (syndrome_words c) (radius c) c.r
 
-  lines-answered : (all : List AskedBits) → All (MayBeAsked c) all
-      → lines (all_asked_text all) ≡ flat_map (correction_line c) all
-  unfolding flat_map syndrome_words
-  lines-answered [] may = lines-ended (syndrome_words c) (radius c) c.r (c.d - 1)
-  lines-answered (one ∷ more) may =
-      let (used, read, behind) = is_read one may.0 (all_asked_text more) in
-      let here = ap (λ (n : ℕ). asked_read n c.r (c.d - 1) (all_asked_text (one ∷ more))) (qubits-have-words c within)
-      ∙ read in
-      lines_more (syndrome_words c) (radius c) c.r (c.d - 1) (all_asked_text (one ∷ more)) used (masks_of one) here
-      ∙ ap₂ ◌++◌ (line-answered one may.0) (ap lines behind ∙ lines-answered more may.1)
+  lines-answered : (syndromes : List (List Bool)) → HaveRBits c syndromes
+      → lines (syndromes_text syndromes) ≡ flat_map (correction_line c) syndromes
+  unfolding flat_map
+  lines-answered [] all = lines-ended (syndrome_words c) (radius c) c.r
+  lines-answered (bits ∷ more) all =
+      let (masked, behind) = line-masked bits all.0 (syndromes_text more) in
+      lines_more (syndrome_words c) (radius c) c.r (syndromes_text (bits ∷ more)) (mask_of_bits bits) masked
+      ∙ ap₂ ◌++◌ (line-answered bits all.0) (ap lines behind ∙ lines-answered more all.1)
 
 pub correction-lines-are-reported : CorrectionLinesAreReported
-correction-lines-are-reported c at s all sized within e =
-    let (may, text) = what_was-got (all-asked-outcome c (length s) at s (omega arith)) e in
-    ap (lines c sized within) text ∙ lines-answered c sized within all may
+correction-lines-are-reported c at s syndromes sized within e =
+    let any : Refusal → Type 0 = λ refusal. Unit in
+    let outcome = syndromes-outcome c {Stop = any} (length s) at (at + length s) s (omega arith) (λ m few. tt) in
+    let (all, text) = what_was-got outcome e in
+    ap (lines c sized within) text ∙ lines-answered c sized within syndromes all

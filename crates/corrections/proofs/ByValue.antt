@@ -59,7 +59,7 @@ pub qubits-have-words : (c : Code) → within_limits c ≡ true → word_qubits 
 qubits-have-words c within = all-qubits c (omega (arith, (limits c within).qubits))
 
 module _ (c : Code) (bits : List Bool) (count : length bits ≡ length (generators c)) where
-  pub same_test : (s : List Letter)
+  same_test : (s : List Letter)
       → eqb (syndrome_mask (generators c) (of_letters s)) (mask_of_bits bits) ≡ has_syndrome c bits s
   unfolding syndrome_mask has_syndrome
   same_test s =

@@ -2,7 +2,7 @@
 ghost use Rattle.std.specs.Prelude.{◌≡◌};
 ghost use Rattle.code_record.specs.Record.{radius};
 ghost use Rattle.letter_sums.specs.Sums.{words_in};
-ghost use Rattle.corrections.specs.Corrections.{of_masks, correction_by, correction_for};
+ghost use Rattle.corrections.specs.Corrections.{correction_by, correction_for};
 
 use code_record::Code;
 use letter_sums::{Found, WORD_ROOM};
@@ -16,18 +16,6 @@ use search::earliest;
 pub enum Correction {
     Found(Pauli),
     None,
-}
-
-impl Correction {
-    // What a search found, by its masks.
-    pub fn of_masks(found: Found) -> Correction
-        ensures { result ≡ of_masks found }
-    {
-        match found {
-            Found::At { a, b } => Correction::Found(Pauli::signed(Sign::Plus, a, b)),
-            Found::Nothing => Correction::None,
-        }
-    }
 }
 
 // How many struck qubits a record's claimed distance corrects: t. It is 0 where d is 0.
@@ -49,7 +37,10 @@ pub fn correct_by<'a>(
 ) -> Correction
     ensures { result ≡ correction_by (words_in qubits first.now second.now) t syndrome }
 {
-    Correction::of_masks(earliest(first, second, qubits, t, syndrome, 1))
+    match earliest(first, second, qubits, t, syndrome, 1) {
+        Found::At { a, b } => Correction::Found(Pauli::signed(Sign::Plus, a, b)),
+        Found::Nothing => Correction::None,
+    }
 }
 
 // The correction that a record has for a syndrome. The first generator's bit is the lowest of the mask. One letter is

@@ -8,6 +8,5 @@ use Rattle.correction_lines.specs.CorrectionLines.{corrections_text}
 
 -- RULES, "Calls and buffers": the lines by themselves: 15 where no code has so many qubits, then 17, then the lines and
 -- their length.
-unfoldable pub write_corrections : LetterWords → ℕ → ℕ → ℕ → List ℕ → List ℕ → After Written
-write_corrections words t r most s buffer =
-    written (qubit_fault words.qubits) (corrections_text words t r most s) buffer
+unfoldable pub write_corrections : LetterWords → ℕ → ℕ → List ℕ → List ℕ → After Written
+write_corrections words t r s buffer = written (qubit_fault words.qubits) (corrections_text words t r s) buffer

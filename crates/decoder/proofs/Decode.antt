@@ -40,30 +40,6 @@ syndrome-laid c P within buffer room =
 
 -- ---- the decode call
 
--- A decode by the fault of its checks, and by what is found.
-abbrev pub ends : Option Refusal → Option (List Letter) → List ℕ → After Decoded
-ends fault found buffer = guarded Decoded.Refused fault buffer (corrected found buffer)
-
-has_room : (n : ℕ) (buffer : List ℕ) → n ≤ length buffer → room_fault n buffer ≡ none
-unfolding room_fault refuse_if
-has_room n buffer room = rw (le-ltb (length buffer) n room)
-
-lacks-room : (n : ℕ) (buffer : List ℕ) → length buffer < n → room_fault n buffer ≡ some Refusal.ShortBuffer
-unfolding room_fault refuse_if
-lacks-room n buffer short = rw (lt-ltb (length buffer) n short)
-
-pub room-written : (n : ℕ) {found : Option (List Letter)} (s : List Letter) → found ≡ some s → (buffer : List ℕ)
-    → n ≤ length buffer
-    → ends (room_fault n buffer) found buffer
-    ≡ record { answer = Decoded.Correction; buffer = laid (map letter_byte s) buffer }
-unfolding guarded corrected
-room-written n s found buffer room = ap₂ (λ fault found. ends fault found buffer) (has_room n buffer room) found
-
-pub room-short : (n : ℕ) (found : Option (List Letter)) (buffer : List ℕ) → length buffer < n
-    → ends (room_fault n buffer) found buffer ≡ untouched (Decoded.Refused Refusal.ShortBuffer) buffer
-unfolding guarded
-room-short n found buffer short = ap (λ fault. ends fault found buffer) (lacks-room n buffer short)
-
 module _ (c : Code) (bits : List Bool) (within : within_limits c ≡ true) (count : length bits ≡ c.r) where
   -- The checks of the call leave 17 to the room for n bytes.
   faults-by-room : (buffer : List ℕ)
@@ -71,6 +47,18 @@ module _ (c : Code) (bits : List Bool) (within : within_limits c ≡ true) (coun
       ≡ room_fault c.n buffer
   unfolding limits_fault syndrome_fault refuse_if ◌then◌ is_none
   faults-by-room buffer = rw (within, syndrome-read c.r bits count)
+
+  has_room : (buffer : List ℕ) → c.n ≤ length buffer → room_fault c.n buffer ≡ none
+  unfolding room_fault refuse_if
+  has_room buffer room = rw (le-ltb (length buffer) c.n room)
+
+  lacks-room : (buffer : List ℕ) → length buffer < c.n → room_fault c.n buffer ≡ some Refusal.ShortBuffer
+  unfolding room_fault refuse_if
+  lacks-room buffer short = rw (lt-ltb (length buffer) c.n short)
+
+  -- The call by the fault of its room, and by what is found.
+  abbrev ends : Option Refusal → Option (List Letter) → List ℕ → After Decoded
+  ends fault found buffer = guarded Decoded.Refused fault buffer (corrected found buffer)
 
   ends-by-room : (buffer : List ℕ)
       → decode c (syndrome_text bits) buffer ≡ ends (room_fault c.n buffer) (correction c bits) buffer
@@ -82,8 +70,12 @@ module _ (c : Code) (bits : List Bool) (within : within_limits c ≡ true) (coun
   pub decode-written : (s : List Letter) → correction c bits ≡ some s → (buffer : List ℕ) → c.n ≤ length buffer
       → decode c (syndrome_text bits) buffer
       ≡ record { answer = Decoded.Correction; buffer = laid (map letter_byte s) buffer }
-  decode-written s found buffer room = ends-by-room buffer ∙ room-written c.n s found buffer room
+  unfolding guarded corrected
+  decode-written s found buffer room =
+      ends-by-room buffer ∙ ap₂ (λ fault found. ends fault found buffer) (has_room buffer room) found
 
   pub decode-short : (buffer : List ℕ) → length buffer < c.n
       → decode c (syndrome_text bits) buffer ≡ untouched (Decoded.Refused Refusal.ShortBuffer) buffer
-  decode-short buffer short = ends-by-room buffer ∙ room-short c.n (correction c bits) buffer short
+  unfolding guarded
+  decode-short buffer short =
+      ends-by-room buffer ∙ ap (λ fault. ends fault (correction c bits) buffer) (lacks-room buffer short)

@@ -16,7 +16,6 @@ use Rattle.decoder.specs.declared.SyndromeAnswer.{SyndromeAnswer}
 use Rattle.decoder.specs.Correction.{decode}
 use Rattle.decoder.specs.Definitions.{definitions}
 use Rattle.decoder.specs.EndToEnd.{cycle}
-use Rattle.decoder.specs.Marks.{decode_marked}
 use Rattle.decoder.specs.Syndrome.{write_syndrome}
 
 code_a : Code
@@ -91,45 +90,6 @@ share-a-syndrome = refl
 decode-nine : (decode code_nine (bytes "00000010") (bytes "abcdefghi")).buffer ≡ bytes "IIZIIIIII"
 unfolding code_nine definitions
 decode-nine = refl
-
--- ---- corrections on marked qubits
-
--- Y on qubit 2 and X on qubit 4 of A, both marked: the correction weighs more than t
-marked-a :
-    decode_marked code_a (bytes "01010") (bytes "1011") (bytes "abcdefg")
-    ≡ record { answer = Decoded.Correction; buffer = bytes "IYIXIfg" }
-unfolding code_a definitions
-marked-a = refl
-
--- with one of the two marked there is none
-marked-none : decode_marked code_a (bytes "01000") (bytes "1011") (bytes "abcde") ≡ untouched Decoded.None (bytes "abcde")
-unfolding code_a definitions
-marked-none = refl
-
--- 15 before 18 before 19 before 16 before 17
-marked-outside : decode_marked empty_code (bytes "x") (bytes "x") [] ≡ untouched (Decoded.Refused Refusal.RecordLimits) []
-unfolding definitions
-marked-outside = refl
-
-marked-off-form : decode_marked code_a (bytes "1111") (bytes "x") [] ≡ untouched (Decoded.Refused (Refusal.Marks 0)) []
-unfolding code_a definitions
-marked-off-form = refl
-
-marked-too-many :
-    decode_marked code_a (bytes "11100") (bytes "x") [] ≡ untouched (Decoded.Refused (Refusal.MarkCount 0)) []
-unfolding code_a definitions
-marked-too-many = refl
-
-marked-syndrome :
-    decode_marked code_a (bytes "11000") (bytes "101") [] ≡ untouched (Decoded.Refused (Refusal.Syndrome 0)) []
-unfolding code_a definitions
-marked-syndrome = refl
-
-marked-short :
-    decode_marked code_a (bytes "01000") (bytes "1011") (bytes "abcd")
-    ≡ untouched (Decoded.Refused Refusal.ShortBuffer) (bytes "abcd")
-unfolding code_a definitions
-marked-short = refl
 
 -- ---- a cycle of the calls
 

@@ -1,5 +1,4 @@
 pub mod Bits
-pub mod Confined
 pub mod Decode
 pub mod Earliest
 pub mod StringText
@@ -11,6 +10,4 @@ pub mod HighBits
 pub mod SyndromeLaws
 pub mod Numbers
 pub mod Untouched
-pub mod MarkedDecode
-pub mod Marked
 pub mod Examples

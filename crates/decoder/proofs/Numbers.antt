@@ -16,7 +16,7 @@ use Rattle.decoder.specs.Correction.{corrected, decode, decoded_refusal}
 use Rattle.decoder.specs.Statements.{DecoderRefusalNumbers}
 use Rattle.decoder.specs.Syndrome.{syndrome_fault, syndrome_refusal, write_syndrome}
 
-pub corrected-lawful : {Law : Refusal → Type 0} (found : Option (List Letter)) (buffer : List ℕ)
+corrected-lawful : {Law : Refusal → Type 0} (found : Option (List Letter)) (buffer : List ℕ)
     → IfRefused Law (decoded_refusal (corrected found buffer).answer)
 unfolding corrected decoded_refusal untouched
 corrected-lawful none buffer = IfRefused.unrefused

@@ -22,7 +22,7 @@ syndrome-leaves c P buffer = guarded-leaves syndrome_refusal buffer _ _ (answer-
 
 -- Whichever answers but a correction are counted as refusals: they leave the buffer.
 module _ (refusalOf : Decoded → Option Refusal) (correction-is-none : refusalOf Decoded.Correction ≡ none) where
-  pub corrected-leaves : (found : Option (List Letter)) (buffer : List ℕ)
+  corrected-leaves : (found : Option (List Letter)) (buffer : List ℕ)
       → RefusalLeaves refusalOf buffer (corrected found buffer)
   unfolding corrected
   corrected-leaves none buffer = untouched-leaves refusalOf buffer Decoded.None
@@ -33,7 +33,7 @@ module _ (refusalOf : Decoded → Option Refusal) (correction-is-none : refusalO
   decode-leaves c characters buffer = guarded-leaves refusalOf buffer _ _ (corrected-leaves _ buffer)
 
 -- Each answer but a correction, counted as a refusal: which refusal does not matter.
-unfoldable pub no_correction : Decoded → Option Refusal
+no_correction : Decoded → Option Refusal
 no_correction Decoded.Correction = none
 no_correction Decoded.None = some Refusal.ShortBuffer
 no_correction (Decoded.Refused refusal) = some refusal

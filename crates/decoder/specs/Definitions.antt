@@ -4,12 +4,9 @@ use Rattle.admission.specs.Definitions.{definitions as definitions-admission}
 use Rattle.decoder.specs.Syndrome.{same_bits, bit_byte, read_bit, syndrome_text, is_none}
 use Rattle.decoder.specs.Syndrome.{read_syndrome, syndrome_fault, write_syndrome, syndrome_refusal}
 use Rattle.decoder.specs.Correction.{has_syndrome, correction, corrected, decode, decoded_refusal}
-use Rattle.decoder.specs.Marks.{count_marks, confined, marked_correction, mark_count_fault, marks_fault, marked_found}
-use Rattle.decoder.specs.Marks.{decode_marked}
 use Rattle.decoder.specs.EndToEnd.{cycle}
 
 unfoldable pub definitions : Unit {0}
 unfolding same_bits bit_byte read_bit syndrome_text is_none read_syndrome syndrome_fault write_syndrome syndrome_refusal
-    has_syndrome correction corrected decode decoded_refusal count_marks confined marked_correction mark_count_fault
-    marks_fault marked_found decode_marked cycle definitions-admission
+    has_syndrome correction corrected decode decoded_refusal cycle definitions-admission
 definitions = tt

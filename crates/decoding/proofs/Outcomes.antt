@@ -42,7 +42,7 @@ use Rattle.decoding.specs.Letters.{letters_decoded}
 -- ---- the letters of what was found
 
 -- What is answered on n qubits, and what the buffer holds then, where the search has this outcome.
-abbrev pub Ends : ℕ → Option (List Letter) → List ℕ → LettersDecoded → List ℕ → Type 0
+abbrev Ends : ℕ → Option (List Letter) → List ℕ → LettersDecoded → List ℕ → Type 0
 Ends n found buffer answer after =
     (answer ≡ letters_decoded n (corrected found buffer).answer) × (after ≡ (corrected found buffer).buffer)
 

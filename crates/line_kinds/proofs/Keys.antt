@@ -19,7 +19,7 @@ use Rattle.sheet.proofs.Values.{read_byte-byte}
 use Rattle.line_kinds.specs.declared.LineKind.{LineKind}
 use Rattle.line_kinds.specs.contracts.LineKind.{the_type}
 use Rattle.line_kinds.specs.declared.LineKind.TheVariants.{Qubits, Distance, Generator, LogicalX, LogicalZ}
-use Rattle.line_kinds.specs.declared.LineKind.TheVariants.{Claim, Syndrome, Marks, Other}
+use Rattle.line_kinds.specs.declared.LineKind.TheVariants.{Claim, Syndrome, Other}
 use Rattle.line_kinds.specs.LineKinds.{kind_byte, kind_key, kinds, or_other, kind_of, line_kind}
 
 kind-of-byte : (k : LineKind) → kind_of (kind_byte k) ≡ k
@@ -31,7 +31,6 @@ kind-of-byte LogicalX = refl
 kind-of-byte LogicalZ = refl
 kind-of-byte Claim = refl
 kind-of-byte Syndrome = refl
-kind-of-byte Marks = refl
 kind-of-byte Other = refl
 
 byte-of-kind : (c : ℕ) (k : LineKind) → 0 < kind_byte k → kind_of c ≡ k → c ≡ kind_byte k
@@ -84,15 +83,14 @@ module _ (k : LineKind) where
 
 -- The places of the other kinds in the table, and that a line whose kind is at one of them is of another kind.
 abbrev others : LineKind → List ℕ
-others Qubits = 1 ∷ 2 ∷ 3 ∷ 4 ∷ 5 ∷ 6 ∷ 7 ∷ 8 ∷ []
-others Distance = 0 ∷ 2 ∷ 3 ∷ 4 ∷ 5 ∷ 6 ∷ 7 ∷ 8 ∷ []
-others Generator = 0 ∷ 1 ∷ 3 ∷ 4 ∷ 5 ∷ 6 ∷ 7 ∷ 8 ∷ []
-others LogicalX = 0 ∷ 1 ∷ 2 ∷ 4 ∷ 5 ∷ 6 ∷ 7 ∷ 8 ∷ []
-others LogicalZ = 0 ∷ 1 ∷ 2 ∷ 3 ∷ 5 ∷ 6 ∷ 7 ∷ 8 ∷ []
-others Claim = 0 ∷ 1 ∷ 2 ∷ 3 ∷ 4 ∷ 6 ∷ 7 ∷ 8 ∷ []
-others Syndrome = 0 ∷ 1 ∷ 2 ∷ 3 ∷ 4 ∷ 5 ∷ 7 ∷ 8 ∷ []
-others Marks = 0 ∷ 1 ∷ 2 ∷ 3 ∷ 4 ∷ 5 ∷ 6 ∷ 8 ∷ []
-others Other = 0 ∷ 1 ∷ 2 ∷ 3 ∷ 4 ∷ 5 ∷ 6 ∷ 7 ∷ []
+others Qubits = 1 ∷ 2 ∷ 3 ∷ 4 ∷ 5 ∷ 6 ∷ 7 ∷ []
+others Distance = 0 ∷ 2 ∷ 3 ∷ 4 ∷ 5 ∷ 6 ∷ 7 ∷ []
+others Generator = 0 ∷ 1 ∷ 3 ∷ 4 ∷ 5 ∷ 6 ∷ 7 ∷ []
+others LogicalX = 0 ∷ 1 ∷ 2 ∷ 4 ∷ 5 ∷ 6 ∷ 7 ∷ []
+others LogicalZ = 0 ∷ 1 ∷ 2 ∷ 3 ∷ 5 ∷ 6 ∷ 7 ∷ []
+others Claim = 0 ∷ 1 ∷ 2 ∷ 3 ∷ 4 ∷ 6 ∷ 7 ∷ []
+others Syndrome = 0 ∷ 1 ∷ 2 ∷ 3 ∷ 4 ∷ 5 ∷ 7 ∷ []
+others Other = 0 ∷ 1 ∷ 2 ∷ 3 ∷ 4 ∷ 5 ∷ 6 ∷ []
 
 pub other-kind : (k : LineKind) {kind : LineKind} → OneOf (others k) (tag_of the_type kind) → kind ≡ k → ⊥
 other-kind k h e = apart k (subst (λ x. OneOf (others k) (tag_of the_type x)) e h)
@@ -105,8 +103,7 @@ other-kind k h e = apart k (subst (λ x. OneOf (others k) (tag_of the_type x)) e
     apart LogicalZ = miss (others LogicalZ) 4 tt
     apart Claim = miss (others Claim) 5 tt
     apart Syndrome = miss (others Syndrome) 6 tt
-    apart Marks = miss (others Marks) 7 tt
-    apart Other = miss (others Other) 8 tt
+    apart Other = miss (others Other) 7 tt
 
 -- ---- the rows of a family
 

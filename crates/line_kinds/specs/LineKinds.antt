@@ -5,10 +5,9 @@ use Prim.Native.Char.{code}
 use Rattle.letters.specs.Lists.{read_byte}
 use Rattle.line_kinds.specs.declared.LineKind.{LineKind}
 use Rattle.line_kinds.specs.declared.LineKind.TheVariants.{Qubits, Distance, Generator, LogicalX, LogicalZ}
-use Rattle.line_kinds.specs.declared.LineKind.TheVariants.{Claim, Syndrome, Marks, Other}
+use Rattle.line_kinds.specs.declared.LineKind.TheVariants.{Claim, Syndrome, Other}
 
--- RULES, "The sheet", "The report" and "Lost qubits": each kind of line has its key. Its byte; a line of another kind
--- has none.
+-- RULES, "The sheet" and "The report": each kind of line has its key. Its byte; a line of another kind has none.
 abbrev pub kind_byte : LineKind → ℕ
 kind_byte Qubits = code "n"
 kind_byte Distance = code "d"
@@ -17,7 +16,6 @@ kind_byte LogicalX = code "x"
 kind_byte LogicalZ = code "z"
 kind_byte Claim = code "w"
 kind_byte Syndrome = code "s"
-kind_byte Marks = code "l"
 kind_byte Other = 0
 
 -- The key itself.
@@ -30,7 +28,7 @@ or_other (some kind) = kind
 
 -- The kind that has this byte as its key.
 abbrev pub kinds : List LineKind
-kinds = Qubits ∷ Distance ∷ Generator ∷ LogicalX ∷ LogicalZ ∷ Claim ∷ Syndrome ∷ Marks ∷ []
+kinds = Qubits ∷ Distance ∷ Generator ∷ LogicalX ∷ LogicalZ ∷ Claim ∷ Syndrome ∷ []
 
 unfoldable pub kind_of : ℕ → LineKind
 kind_of c = or_other (read_byte kind_byte kinds c)

@@ -17,7 +17,6 @@ pub enum LineKind {
     LogicalZ,
     Claim,
     Syndrome,
-    Marks,
     Other,
 }
 
@@ -39,7 +38,6 @@ pub fn line_kind(s: &[u8]) -> LineKind
         b'z' => LineKind::LogicalZ,
         b'w' => LineKind::Claim,
         b's' => LineKind::Syndrome,
-        b'l' => LineKind::Marks,
         _ => LineKind::Other,
     }
 }

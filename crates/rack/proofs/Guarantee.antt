@@ -1,6 +1,5 @@
 -- The third guarantee of the calls for programs in C, from that of the calls which they make: a number tells the
 -- answer.
-use mathlib.Core.Bool.{Bool}
 use mathlib.Core.List.{List}
 use mathlib.Core.Option.{some-injective}
 use mathlib.Core.Path.{◌≡◌, refl, ap, sym, subst, ◌∙◌}
@@ -16,20 +15,18 @@ use Rattle.refusals.specs.declared.Refusal.TheVariants.{TooLong, Form, QubitCoun
 use Rattle.refusals.specs.declared.Refusal.TheVariants.{GeneratorsAnticommute, MinusIdentity, DependentGenerator}
 use Rattle.refusals.specs.declared.Refusal.TheVariants.{LogicalAnticommutes, LogicalPairing, ClaimedWeight}
 use Rattle.refusals.specs.declared.Refusal.TheVariants.{ClaimedAnticommutes, ClaimedInGroup, DistanceRefuted}
-use Rattle.refusals.specs.declared.Refusal.TheVariants.{RecordLimits, Syndrome, ShortBuffer, Marks, MarkCount}
+use Rattle.refusals.specs.declared.Refusal.TheVariants.{RecordLimits, Syndrome, ShortBuffer}
 use Rattle.sheet.specs.Text.{untouched}
 use Rattle.admission.specs.declared.Admission.{Admission}
 use Rattle.admission.specs.declared.Reading.{Reading}
 use Rattle.admission.specs.Admission.{admitted, refused_reading, read_sheet}
 use Rattle.admission.proofs.Admitted.{admitted-as, admitted-lawful}
 use Rattle.decoder.specs.EndToEnd.{Correctable}
-use Rattle.decoder.specs.MarkedStatements.{Lost}
 use Rattle.decoder.specs.Statements.{Refutes}
 use Rattle.decoder.proofs.Decode.{syndrome-laid}
 use Rattle.decoder.proofs.Earliest.{correction-is-earliest}
 use Rattle.decoder.proofs.EndToEnd.{end_to_end}
 use Rattle.decoder.proofs.Guarantee.{errors-are-corrected}
-use Rattle.decoder.proofs.Marked.{marked-correction-is-earliest, lost-qubits-are-corrected}
 use Rattle.mask_decoding.specs.declared.MaskDecoded.{MaskDecoded}
 use Rattle.mask_decoding.proofs.Corrected.{corrected-by-value}
 use Rattle.reporting.specs.Report.{write_report}
@@ -37,9 +34,8 @@ use Rattle.reporting.proofs.Guarantee.{guarantee-in-reports}
 use Rattle.rack_answers.specs.Answers.{done, refused_answer, syndrome_answer, decoded_answer, correction_answer}
 use Rattle.rack_answers.specs.Answers.{admission_answer, admission_errors, errors_in, sheet_answer}
 use Rattle.rack_answers.proofs.Numbers.{numbers-tell}
-use Rattle.rack.specs.Calls.{in_numbers, read_call, syndrome_call, decode_call, decode_marked_call, correct_call}
-use Rattle.rack.specs.Calls.{report_call}
-use Rattle.rack.specs.Statements.{Struck, CorrectsInC, CorrectsOnMarksInC, RefutedInC, GuaranteeInC}
+use Rattle.rack.specs.Calls.{in_numbers, read_call, syndrome_call, decode_call, correct_call, report_call}
+use Rattle.rack.specs.Statements.{Struck, CorrectsInC, RefutedInC, GuaranteeInC}
 
 -- ---- errors are corrected
 
@@ -72,23 +68,6 @@ corrected s E struck =
       by_value = ap correction_answer (by.answered ∙ ap (λ s. MaskDecoded.Correction (of_letters s)) same);
     }
 
-lost : (s : List ℕ) → (read_call s).answer.number ≡ 0 → (marks : List Bool) (E : Pauli)
-    → Lost (read_call s).code marks E → CorrectsOnMarksInC (read_call s).code marks E
-unfolding read_call decode_marked_call in_numbers untouched
-lost s done marks E h =
-    let c = (read_sheet s).code in
-    let is = lost-qubits-are-corrected s (numbers-tell.admitted (read_sheet s) done) marks E h in
-    let candidate = ((marked-correction-is-earliest c marks (syndrome (generators c) E)).found _ is.found).0 in
-    record {
-      letters = is.letters;
-      count = candidate.letters;
-      found = is.found;
-      on_marks = candidate.on_marks;
-      in_group = is.in_group;
-      decoded = λ buffer room. ap (in_numbers (decoded_answer c.n)) (is.written buffer room);
-      short = λ buffer room. ap (in_numbers (decoded_answer c.n)) (is.short buffer room);
-    }
-
 -- ---- the distance is decided
 
 -- Number 14 is that of one refusal.
@@ -112,8 +91,6 @@ told_14 (Admission.Refused (DistanceRefuted at pair)) e = (at, pair, refl)
 told_14 (Admission.Refused RecordLimits) e = absurd (omega arith)
 told_14 (Admission.Refused (Syndrome at)) e = absurd (omega arith)
 told_14 (Admission.Refused ShortBuffer) e = absurd (omega arith)
-told_14 (Admission.Refused (Marks at)) e = absurd (omega arith)
-told_14 (Admission.Refused (MarkCount at)) e = absurd (omega arith)
 
 shown : (s : List ℕ) → (read_call s).answer.number ≡ 14 → RefutedInC s
 unfolding read_call
@@ -135,7 +112,6 @@ pub guarantee-in-c : GuaranteeInC
 unfolding read_call report_call refused_reading admitted
 guarantee-in-c = record {
   corrected = corrected;
-  lost = lost;
   reported = λ input buffer. record {
     after = write_report input buffer;
     guaranteed = guarantee-in-reports input buffer;

@@ -14,12 +14,10 @@ use Rattle.decoder.specs.declared.Decoded.{Decoded}
 use Rattle.decoder.specs.declared.SyndromeAnswer.{SyndromeAnswer}
 use Rattle.decoder.specs.Correction.{decode, decoded_refusal}
 use Rattle.decoder.specs.Syndrome.{syndrome_refusal}
-use Rattle.decoder.proofs.MarkedDecode.{marked-refusals-leave}
 use Rattle.decoder.proofs.Untouched.{decoder-refusals-leave}
 use Rattle.reporting.proofs.Report.{report-refusals-leave}
 use Rattle.rack_answers.specs.Answers.{written_answer, syndrome_answer, decoded_answer}
-use Rattle.rack.specs.Calls.{in_numbers, sheet_call, canonical_call, syndrome_call, decode_call, decode_marked_call}
-use Rattle.rack.specs.Calls.{report_call}
+use Rattle.rack.specs.Calls.{in_numbers, sheet_call, canonical_call, syndrome_call, decode_call, report_call}
 use Rattle.rack.specs.Statements.{OnlyDoneWrites, CallsLeave}
 
 module _ (buffer left : List ℕ) where
@@ -47,7 +45,7 @@ module _ (buffer left : List ℕ) where
   of-decoded n (Decoded.Refused refusal) leaves missing undone = (leaves.unchanged refusal refl, refl)
 
 pub calls-leave : CallsLeave
-unfolding sheet_call canonical_call syndrome_call decode_call decode_marked_call report_call
+unfolding sheet_call canonical_call syndrome_call decode_call report_call
 calls-leave = record {
   sheets = λ c buffer. of-written buffer _ _ (writer-refusals-leave c buffer);
   canonicals = λ c buffer. of-written buffer _ _ (canonical-refusals-leave c buffer);
@@ -55,8 +53,5 @@ calls-leave = record {
   corrections = λ c characters buffer. of-decoded buffer _ c.n _
       (decoder-refusals-leave.corrections c characters buffer)
       (decoder-refusals-leave.missing c characters buffer);
-  marked = λ c marks characters buffer. of-decoded buffer _ c.n _
-      (marked-refusals-leave.corrections c marks characters buffer)
-      (marked-refusals-leave.missing c marks characters buffer);
   reports = λ input buffer. of-written buffer _ _ (report-refusals-leave input buffer);
 }

@@ -1,7 +1,7 @@
 -- A call leaves a buffer as long as it was.
 use mathlib.Core.Bool.{Bool, true, false}
 use mathlib.Core.List.{List, map}
-use mathlib.Core.Option.{Option, none, some, bind, none-ne-some}
+use mathlib.Core.Option.{Option, none, some, bind}
 use mathlib.Core.Path.{◌≡◌, refl, ap, sym, ◌∙◌}
 use Prim.Native.Nat.{ℕ, ◌≤◌}
 use native.Mathlib.Omega.{arith}
@@ -21,10 +21,8 @@ use Rattle.sheet.specs.Text.{After, laid, untouched, guarded, room_fault, writte
 use Rattle.sheet.proofs.Laid.{length-laid}
 use Rattle.decoder.specs.declared.Decoded.{Decoded}
 use Rattle.decoder.specs.Correction.{correction, corrected, decode}
-use Rattle.decoder.specs.Marks.{read_marks, marks_fault, marked_found, decode_marked}
 use Rattle.decoder.specs.Syndrome.{bit_byte, syndrome_text, write_syndrome, read_syndrome, syndrome_fault}
 use Rattle.decoder.proofs.Earliest.{correction-is-earliest}
-use Rattle.decoder.proofs.Marked.{marked-correction-is-earliest}
 
 -- Where the checks end with that of m bytes: nothing is written unless there is room for them.
 module _ {A : Type 0} (refused : Refusal → A) (m : ℕ) (buffer : List ℕ) (after : After A)
@@ -60,69 +58,32 @@ length-measured c P buffer =
     )))
     (limits_fault c)
 
--- ---- the decode calls
-
-module _ (c : Code) (found : Option (List Letter)) (counted : (s : List Letter) → found ≡ some s → length s ≡ c.n)
-    (buffer : List ℕ)
-  where
-    -- A correction has n letters.
-    length-corrected : c.n ≤ length buffer → length (corrected found buffer).buffer ≡ length buffer
-    unfolding corrected untouched
-    length-corrected room = by-search found refl
-      where
-        by-search : (letters : Option (List Letter)) → found ≡ letters
-            → length (corrected letters buffer).buffer ≡ length buffer
-        by-search none e = refl
-        by-search (some s) e =
-            length-laid (map letter_byte s) buffer (omega (arith, length-map s letter_byte, counted s e))
-
-    length-by-fault : (fault : Option Refusal)
-        → length (guarded Decoded.Refused (fault then room_fault c.n buffer) buffer (corrected found buffer)).buffer
-        ≡ length buffer
-    length-by-fault fault =
-        checked-length Decoded.Refused c.n buffer (corrected found buffer) length-corrected fault
-
 then-assoc : (first second third : Option Refusal)
     → ((first then second) then third) ≡ (first then second then third)
 unfolding ◌then◌
 then-assoc none second third = refl
 then-assoc (some refusal) second third = refl
 
--- Which search finds the letters does not matter: each finds n.
-found-counted : (c : Code) (read : Option (List Bool)) (s : List Letter) → bind read (correction c) ≡ some s
-    → length s ≡ c.n
-unfolding bind
-found-counted c none s e = absurd (none-ne-some s e)
-found-counted c (some bits) s e = ((correction-is-earliest c bits).found s e).0.letters
-
-marked-counted : (c : Code) (marks bits : Option (List Bool)) (s : List Letter) → marked_found c marks bits ≡ some s
-    → length s ≡ c.n
-unfolding bind marked_found
-marked-counted c none bits s e = absurd (none-ne-some s e)
-marked-counted c (some marks) none s e = absurd (none-ne-some s e)
-marked-counted c (some marks) (some bits) s e = ((marked-correction-is-earliest c marks bits).found s e).0.letters
+-- A correction has n letters.
+length-corrected : (c : Code) (found : Option (List Bool)) (buffer : List ℕ) → c.n ≤ length buffer
+    → length (corrected (bind found (correction c)) buffer).buffer ≡ length buffer
+unfolding corrected untouched bind
+length-corrected c none buffer room = refl
+length-corrected c (some bits) buffer room = by-search (correction c bits) refl
+  where
+    by-search : (letters : Option (List Letter)) → correction c bits ≡ letters
+        → length (corrected letters buffer).buffer ≡ length buffer
+    by-search none e = refl
+    by-search (some s) e =
+        length-laid (map letter_byte s) buffer
+        (omega (arith, length-map s letter_byte, ((correction-is-earliest c bits).found s e).0.letters))
 
 pub length-decoded : (c : Code) (characters buffer : List ℕ)
     → length (decode c characters buffer).buffer ≡ length buffer
 unfolding decode
 length-decoded c characters buffer =
-    let read = read_syndrome c.r characters in
-    ap (λ fault. length (guarded Decoded.Refused fault buffer (corrected (bind read (correction c)) buffer)).buffer)
+    let after = corrected (bind (read_syndrome c.r characters) (correction c)) buffer in
+    ap (λ fault. length (guarded Decoded.Refused fault buffer after).buffer)
     (sym (then-assoc (limits_fault c) (syndrome_fault c.r characters) (room_fault c.n buffer)))
-    ∙ length-by-fault c (bind read (correction c)) (found-counted c read) buffer
+    ∙ checked-length Decoded.Refused c.n buffer after (length-corrected c (read_syndrome c.r characters) buffer)
     (limits_fault c then syndrome_fault c.r characters)
-
-pub length_marked : (c : Code) (marks characters buffer : List ℕ)
-    → length (decode_marked c marks characters buffer).buffer ≡ length buffer
-unfolding decode_marked
-length_marked c marks characters buffer =
-    let read = read_marks c.n marks in
-    let found = marked_found c read (read_syndrome c.r characters) in
-    let before = marks_fault 0 c.d read in
-    let own = syndrome_fault c.r characters in
-    let room = room_fault c.n buffer in
-    ap (λ fault. length (guarded Decoded.Refused fault buffer (corrected found buffer)).buffer)
-    (ap (λ later. limits_fault c then later) (sym (then-assoc before own room))
-    ∙ sym (then-assoc (limits_fault c) (before then own) room))
-    ∙ length-by-fault c found (marked-counted c read (read_syndrome c.r characters)) buffer
-    (limits_fault c then (before then own))

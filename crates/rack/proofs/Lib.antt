@@ -1,4 +1,3 @@
-pub mod Counted
 pub mod Lengths
 pub mod Leaves
 pub mod Guarantee

@@ -8,7 +8,6 @@ use Rattle.sheet.specs.Writer.{write_sheet}
 use Rattle.stabilizer.specs.Canonical.{write_canonical}
 use Rattle.admission.specs.Admission.{read_sheet}
 use Rattle.decoder.specs.Correction.{decode}
-use Rattle.decoder.specs.Marks.{decode_marked}
 use Rattle.decoder.specs.Syndrome.{write_syndrome}
 use Rattle.mask_decoding.specs.Masks.{decode_mask}
 use Rattle.reporting.specs.Report.{write_report}
@@ -36,9 +35,6 @@ syndrome_call c P buffer = in_numbers (syndrome_answer c.r) (write_syndrome c P 
 
 unfoldable pub decode_call : Code → List ℕ → List ℕ → After Answer
 decode_call c characters buffer = in_numbers (decoded_answer c.n) (decode c characters buffer)
-
-unfoldable pub decode_marked_call : Code → List ℕ → List ℕ → List ℕ → After Answer
-decode_marked_call c marks characters buffer = in_numbers (decoded_answer c.n) (decode_marked c marks characters buffer)
 
 unfoldable pub correct_call : Code → ℕ → CorrectionAnswer
 correct_call c mask = correction_answer (decode_mask c mask)

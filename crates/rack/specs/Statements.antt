@@ -1,5 +1,5 @@
 -- What is stated of the calls for programs in C: what they leave in a buffer, and the third guarantee.
-use Rattle.std.specs.Prelude.{Bool, true, List, map, ◌≡◌, ℕ, ◌≤◌, ◌<◌, length}
+use Rattle.std.specs.Prelude.{true, List, map, ◌≡◌, ℕ, ◌≤◌, ◌<◌, length}
 use Rattle.std.proofs.Math.Option.{some}
 use Rattle.letters.specs.declared.Letter.{Letter}
 use Rattle.letters.specs.Letters.{letter_byte}
@@ -17,15 +17,13 @@ use Rattle.sheet.specs.Text.{After, laid, untouched}
 use Rattle.stabilizer.specs.Group.{InGroupUpToPhase}
 use Rattle.admission.specs.Admission.{AdmissibleButForDistance}
 use Rattle.decoder.specs.Correction.{correction}
-use Rattle.decoder.specs.Marks.{confined, marked_correction}
-use Rattle.decoder.specs.MarkedStatements.{Lost}
 use Rattle.decoder.specs.Statements.{Refutes, Refuted}
 use Rattle.decoder.specs.Syndrome.{syndrome_text}
 use Rattle.reporting.specs.Statements.{GuaranteedReport}
 use Rattle.rack_answers.specs.declared.Answer.{Answer}
 use Rattle.rack_answers.specs.Answers.{done, refused_answer, written_answer}
 use Rattle.rack.specs.Calls.{read_call, sheet_call, canonical_call, syndrome_call, decode_call, correct_call}
-use Rattle.rack.specs.Calls.{in_numbers, decode_marked_call, report_call}
+use Rattle.rack.specs.Calls.{in_numbers, report_call}
 
 -- ---- what a call leaves
 
@@ -40,8 +38,6 @@ pub record CallsLeave : Type 0 where
   pub canonicals : (c : Code) (buffer : List ℕ) → OnlyDoneWrites buffer (canonical_call c buffer)
   pub syndromes : (c : Code) (P : Pauli) (buffer : List ℕ) → OnlyDoneWrites buffer (syndrome_call c P buffer)
   pub corrections : (c : Code) (characters buffer : List ℕ) → OnlyDoneWrites buffer (decode_call c characters buffer)
-  pub marked : (c : Code) (marks characters buffer : List ℕ)
-      → OnlyDoneWrites buffer (decode_marked_call c marks characters buffer)
   pub reports : (input buffer : List ℕ) → OnlyDoneWrites buffer (report_call input buffer)
 
 -- ---- the third guarantee
@@ -74,21 +70,6 @@ pub record CorrectsInC (c : Code) (E : Pauli) : Type 0 where
   pub by_value : correct_call c (syndrome_mask (generators c) E)
       ≡ record { answer = done 0; correction = of_letters letters }
 
--- RULES, "Lost qubits": the n letters of the marked correction for E's syndrome have I at every unmarked qubit, and
--- times E they are in the group, phase aside. The decode call with marks writes them.
-pub record CorrectsOnMarksInC (c : Code) (marks : List Bool) (E : Pauli) : Type 0 where
-  pub letters : List Letter
-  pub count : length letters ≡ c.n
-  pub found : marked_correction c marks (syndrome (generators c) E) ≡ some letters
-  pub on_marks : confined marks letters ≡ true
-  pub in_group : InGroupUpToPhase (generators c) (product (of_letters letters) E)
-  pub decoded : (buffer : List ℕ) → c.n ≤ length buffer
-      → decode_marked_call c (syndrome_text marks) (syndrome_text (syndrome (generators c) E)) buffer
-      ≡ record { answer = done c.n; buffer = laid (map letter_byte letters) buffer }
-  pub short : (buffer : List ℕ) → length buffer < c.n
-      → decode_marked_call c (syndrome_text marks) (syndrome_text (syndrome (generators c) E)) buffer
-      ≡ untouched (refused_answer Refusal.ShortBuffer) buffer
-
 -- RULES, "Guarantees": two errors that refute the distance of a sheet, which is admissible but for it.
 pub record RefutedInC (s : List ℕ) : Type 0 where
   pub read : SheetRead
@@ -105,11 +86,9 @@ pub record ReportedInC (input buffer : List ℕ) : Type 0 where
 
 -- RULES, "Guarantees": the third one. Errors are corrected, in reports too; number 14 has two errors beside it that
 -- refute the distance. A sheet that is admissible but for distance has number 14 where two such errors exist, and else
--- number 0. RULES, "Lost qubits": so are errors on marked qubits, where a sheet was read with number 0.
+-- number 0.
 pub record GuaranteeInC : Type 0 where
   pub corrected : (s : List ℕ) (E : Pauli) → Struck s E → CorrectsInC (read_call s).code E
-  pub lost : (s : List ℕ) → (read_call s).answer.number ≡ 0 → (marks : List Bool) (E : Pauli)
-      → Lost (read_call s).code marks E → CorrectsOnMarksInC (read_call s).code marks E
   pub reported : (input buffer : List ℕ) → ReportedInC input buffer
   pub shown : (s : List ℕ) → (read_call s).answer.number ≡ 14 → RefutedInC s
   pub refused : (s : List ℕ) (q : SheetRead) → AdmissibleButForDistance s q → Refuted q.code

@@ -2,7 +2,7 @@
 // answers in numbers.
 ghost use Rattle.std.specs.Prelude.{◌≡◌};
 ghost use Rattle.rack.specs.Calls.{read_call, sheet_call, canonical_call, syndrome_call, decode_call, correct_call};
-ghost use Rattle.rack.specs.Calls.{decode_marked_call, report_call};
+ghost use Rattle.rack.specs.Calls.{report_call};
 
 use code_record::Code;
 use pauli::Pauli;
@@ -50,22 +50,6 @@ pub extern "C" fn reinoften_decode(code: Code, syndrome: &[u8], out: &mut [u8]) 
     ensures out_after { out.new ≡ (decode_call code syndrome.now out.old).buffer }
 {
     Answer::of_letters(decoding::decode_letters(code, syndrome, out))
-}
-
-// The correction on marked qubits for a syndrome, both given as characters, as letters.
-#[unsafe(no_mangle)]
-pub extern "C" fn reinoften_decode_marked(
-    code: Code,
-    marks: &[u8],
-    syndrome: &[u8],
-    out: &mut [u8],
-) -> Answer
-    ensures value { result
-        ≡ (decode_marked_call code marks.now syndrome.now out.old).answer }
-    ensures out_after { out.new
-        ≡ (decode_marked_call code marks.now syndrome.now out.old).buffer }
-{
-    Answer::of_letters(marked_decoding::decode_marked(code, marks, syndrome, out))
 }
 
 // The correction for a syndrome that is given as a mask, by value.

@@ -7,7 +7,7 @@ use Rattle.refusals.specs.declared.Refusal.TheVariants.{TooLong, Form, QubitCoun
 use Rattle.refusals.specs.declared.Refusal.TheVariants.{GeneratorsAnticommute, MinusIdentity, DependentGenerator}
 use Rattle.refusals.specs.declared.Refusal.TheVariants.{LogicalAnticommutes, LogicalPairing, ClaimedWeight}
 use Rattle.refusals.specs.declared.Refusal.TheVariants.{ClaimedAnticommutes, ClaimedInGroup, DistanceRefuted}
-use Rattle.refusals.specs.declared.Refusal.TheVariants.{RecordLimits, Syndrome, ShortBuffer, Marks, MarkCount}
+use Rattle.refusals.specs.declared.Refusal.TheVariants.{RecordLimits, Syndrome, ShortBuffer}
 use Rattle.refusals.specs.declared.Written.{Written}
 use Rattle.admission.specs.declared.Admission.{Admission}
 use Rattle.admission.specs.declared.Reading.{Reading}
@@ -19,8 +19,8 @@ use Rattle.rack_answers.specs.Answers.{syndrome_answer, decoded_answer, no_value
 use Rattle.rack_answers.specs.Answers.{admission_answer, sheet_answer}
 use Rattle.rack_answers.specs.Statements.{NumbersTell}
 
--- A refusal has a number from 1 to 19.
-in-range : (refusal : Refusal) → (1 ≤ (refused_answer refusal).number) × ((refused_answer refusal).number ≤ 19)
+-- A refusal has a number from 1 to 17.
+in-range : (refusal : Refusal) → (1 ≤ (refused_answer refusal).number) × ((refused_answer refusal).number ≤ 17)
 in-range TooLong = omega arith
 in-range (Form at) = omega arith
 in-range (QubitCount at) = omega arith
@@ -38,8 +38,6 @@ in-range (DistanceRefuted at pair) = omega arith
 in-range RecordLimits = omega arith
 in-range (Syndrome at) = omega arith
 in-range ShortBuffer = omega arith
-in-range (Marks at) = omega arith
-in-range (MarkCount at) = omega arith
 
 not_done : (refusal : Refusal) → (refused_answer refusal).number ≡ 0 → ⊥
 not_done refusal e = omega (arith, in-range refusal)

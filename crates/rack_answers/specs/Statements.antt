@@ -10,11 +10,11 @@ use Rattle.mask_decoding.specs.declared.MaskDecoded.{MaskDecoded}
 use Rattle.rack_answers.specs.Answers.{none_number, refused_answer, written_answer, syndrome_answer, decoded_answer}
 use Rattle.rack_answers.specs.Answers.{correction_answer, sheet_answer}
 
--- RULES, "The library": the number of an answer tells which it is. A refusal has 1 to 19, so 0 is done alone, and 255
+-- RULES, "The library": the number of an answer tells which it is. A refusal has 1 to 17, so 0 is done alone, and 255
 -- is `none` alone.
 pub record NumbersTell : Type 0 where
   pub refusals : (refusal : Refusal)
-      → (1 ≤ (refused_answer refusal).number) × ((refused_answer refusal).number ≤ 19)
+      → (1 ≤ (refused_answer refusal).number) × ((refused_answer refusal).number ≤ 17)
   pub admitted : (reading : Reading) → (sheet_answer reading).answer.number ≡ 0 → reading.answer ≡ Admission.Admitted
   pub written : (answer : Written) → (written_answer answer).number ≡ 0
       → answer ≡ Written.Count (written_answer answer).count

@@ -1,5 +1,5 @@
 // The answers of calls as numbers, for programs in C: no enum crosses to them. The number of an answer tells what
-// happened: 0 for done, 1 to 19 for a refusal, 255 for `none`.
+// happened: 0 for done, 1 to 17 for a refusal, 255 for `none`.
 ghost use Rattle.std.specs.Prelude.{◌≡◌};
 ghost use Rattle.std.proofs.Math.Option.{none};
 ghost use Rattle.refusals.specs.Refusals.{values};
@@ -102,7 +102,7 @@ impl Answer {
         }
     }
 
-    // Of a decode call that counts its letters.
+    // Of the decode call that counts its letters.
     pub fn of_letters(answer: LettersDecoded) -> Answer
         ensures { result ≡ letters_answer answer }
     {

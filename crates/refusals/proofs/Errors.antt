@@ -11,13 +11,13 @@ use Rattle.refusals.specs.declared.Refusal.TheVariants.{GeneratorCount, Generato
 use Rattle.refusals.specs.declared.Refusal.TheVariants.{DependentGenerator, LogicalAnticommutes}
 use Rattle.refusals.specs.declared.Refusal.TheVariants.{LogicalPairing, ClaimedWeight, ClaimedAnticommutes}
 use Rattle.refusals.specs.declared.Refusal.TheVariants.{ClaimedInGroup, DistanceRefuted, RecordLimits}
-use Rattle.refusals.specs.declared.Refusal.TheVariants.{Syndrome, ShortBuffer, Marks, MarkCount}
+use Rattle.refusals.specs.declared.Refusal.TheVariants.{Syndrome, ShortBuffer}
 use Rattle.refusals.specs.Refusals.{values}
 use Rattle.refusals.specs.contracts.Refusal.{the_type}
 
 -- The places of the others among the refusals: these have no errors.
 abbrev others : List ℕ
-others = 0 ∷ 1 ∷ 2 ∷ 3 ∷ 4 ∷ 5 ∷ 6 ∷ 7 ∷ 8 ∷ 9 ∷ 10 ∷ 11 ∷ 12 ∷ 14 ∷ 15 ∷ 16 ∷ 17 ∷ 18 ∷ []
+others = 0 ∷ 1 ∷ 2 ∷ 3 ∷ 4 ∷ 5 ∷ 6 ∷ 7 ∷ 8 ∷ 9 ∷ 10 ∷ 11 ∷ 12 ∷ 14 ∷ 15 ∷ 16 ∷ []
 
 pub no-errors : (refusal : Refusal) → OneOf others (tag_of the_type refusal) → (values refusal).errors ≡ none
 no-errors TooLong _ = refl
@@ -37,5 +37,3 @@ no-errors (DistanceRefuted at pair) other = absurd (miss others 13 tt other)
 no-errors RecordLimits _ = refl
 no-errors (Syndrome at) _ = refl
 no-errors ShortBuffer _ = refl
-no-errors (Marks at) _ = refl
-no-errors (MarkCount at) _ = refl

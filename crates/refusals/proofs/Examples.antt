@@ -15,17 +15,17 @@ cases =
     ∷ Refusal.DependentGenerator 8 Family.Generator ∷ Refusal.LogicalAnticommutes 8 Family.LogicalX
     ∷ Refusal.LogicalPairing 8 Family.LogicalZ ∷ Refusal.ClaimedWeight 8 ∷ Refusal.ClaimedAnticommutes 8
     ∷ Refusal.ClaimedInGroup 8 ∷ Refusal.DistanceRefuted 8 (record { n = 0; e = identity; f = identity })
-    ∷ Refusal.RecordLimits ∷ Refusal.Syndrome 8 ∷ Refusal.ShortBuffer ∷ Refusal.Marks 8 ∷ Refusal.MarkCount 8 ∷ []
+    ∷ Refusal.RecordLimits ∷ Refusal.Syndrome 8 ∷ Refusal.ShortBuffer ∷ []
 
 numbers :
     map (λ refusal. (values refusal).number) cases
-    ≡ 1 ∷ 2 ∷ 3 ∷ 4 ∷ 5 ∷ 6 ∷ 7 ∷ 8 ∷ 9 ∷ 10 ∷ 11 ∷ 12 ∷ 13 ∷ 14 ∷ 15 ∷ 16 ∷ 17 ∷ 18 ∷ 19 ∷ []
+    ≡ 1 ∷ 2 ∷ 3 ∷ 4 ∷ 5 ∷ 6 ∷ 7 ∷ 8 ∷ 9 ∷ 10 ∷ 11 ∷ 12 ∷ 13 ∷ 14 ∷ 15 ∷ 16 ∷ 17 ∷ []
 unfolding cases definitions
 numbers = refl
 
 -- 1, 15 and 17 name no line.
 lines-named :
     map (λ refusal. (values refusal).line) cases
-    ≡ 0 ∷ 8 ∷ 8 ∷ 8 ∷ 8 ∷ 8 ∷ 8 ∷ 8 ∷ 8 ∷ 8 ∷ 8 ∷ 8 ∷ 8 ∷ 8 ∷ 0 ∷ 8 ∷ 0 ∷ 8 ∷ 8 ∷ []
+    ≡ 0 ∷ 8 ∷ 8 ∷ 8 ∷ 8 ∷ 8 ∷ 8 ∷ 8 ∷ 8 ∷ 8 ∷ 8 ∷ 8 ∷ 8 ∷ 8 ∷ 0 ∷ 8 ∷ 0 ∷ []
 unfolding cases definitions
 lines-named = refl

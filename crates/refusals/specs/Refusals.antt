@@ -12,7 +12,7 @@ use Rattle.refusals.specs.declared.Refusal.TheVariants.{GeneratorsAnticommute, M
 use Rattle.refusals.specs.declared.Refusal.TheVariants.{DependentGenerator}
 use Rattle.refusals.specs.declared.Refusal.TheVariants.{LogicalAnticommutes, LogicalPairing, ClaimedWeight}
 use Rattle.refusals.specs.declared.Refusal.TheVariants.{ClaimedAnticommutes, ClaimedInGroup, DistanceRefuted}
-use Rattle.refusals.specs.declared.Refusal.TheVariants.{RecordLimits, Syndrome, ShortBuffer, Marks, MarkCount}
+use Rattle.refusals.specs.declared.Refusal.TheVariants.{RecordLimits, Syndrome, ShortBuffer}
 use Rattle.refusals.specs.declared.RefusalValues.{RefusalValues}
 use Rattle.refusals.specs.declared.RowFamily.{RowFamily}
 use Rattle.refusals.specs.declared.Written.{Written}
@@ -49,8 +49,6 @@ values (DistanceRefuted line pair) = record { number = 14; line = line; family =
 values RecordLimits = plain 15 0
 values (Syndrome line) = plain 16 line
 values ShortBuffer = plain 17 0
-values (Marks line) = plain 18 line
-values (MarkCount line) = plain 19 line
 
 -- The values as a call answers them: all but the errors, which the case itself holds.
 abbrev pub row_family : Option Family → RowFamily

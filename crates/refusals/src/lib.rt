@@ -36,7 +36,7 @@ pub struct ErrorPair {
     pub f: Pauli,
 }
 
-// The refusals in the order of their numbers, 1 to 19. A case that names a line of the sheet holds it, and one about a
+// The refusals in the order of their numbers, 1 to 17. A case that names a line of the sheet holds it, and one about a
 // row its family too.
 #[derive(Drop)]
 pub enum Refusal {
@@ -74,10 +74,6 @@ pub enum Refusal {
     Syndrome(usize),
     // 17: an output buffer is shorter than the answer.
     ShortBuffer,
-    // 18: marks are off their form, or no syndrome stands behind their line; line 0 where they stand alone.
-    Marks(usize),
-    // 19: more than d - 1 qubits are marked; line 0 where the marks stand alone.
-    MarkCount(usize),
 }
 
 impl Refusal {
@@ -103,8 +99,6 @@ impl Refusal {
             Refusal::RecordLimits => RefusalValues::plain(15, 0),
             Refusal::Syndrome(line) => RefusalValues::plain(16, line),
             Refusal::ShortBuffer => RefusalValues::plain(17, 0),
-            Refusal::Marks(line) => RefusalValues::plain(18, line),
-            Refusal::MarkCount(line) => RefusalValues::plain(19, line),
         }
     }
 }

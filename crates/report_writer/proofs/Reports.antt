@@ -1,13 +1,14 @@
 -- The report by what its parts answered: each part's text is the report's, and the part refuses with 17 alone.
+use mathlib.Core.Bool.{Bool}
 use mathlib.Core.List.{List, [], ◌++◌}
-use mathlib.Core.Option.{Option, none, some, none-ne-some, some-injective}
+use mathlib.Core.Option.{Option, none, some}
 use mathlib.Core.Path.{◌≡◌, refl, ap, ap₂, sym, subst, ◌∙◌}
-use Prim.Native.Nat.{ℕ, ◌+◌, ◌-◌, ◌^◌, ◌≤◌, ◌<◌}
+use Prim.Native.Nat.{ℕ, ◌+◌, ◌^◌, ◌≤◌, ◌<◌}
 use native.Mathlib.Omega.{arith}
 use lib.ListN.{length}
 use Rattle.code_record.specs.declared.Code.{Code}
 use Rattle.code_record.specs.declared.LinesReading.{LinesReading}
-use Rattle.code_record.specs.Record.{most_qubits, generators, limits_fault}
+use Rattle.code_record.specs.Record.{most_qubits, row_room, generators, limits_fault}
 use Rattle.code_record.proofs.Limits.{limits, within-later}
 use Rattle.refusals.specs.declared.ErrorPair.{ErrorPair}
 use Rattle.refusals.specs.declared.Lines.{Lines}
@@ -27,20 +28,19 @@ use Rattle.reduced_rows.specs.declared.ReducedRows.{ReducedRows}
 use Rattle.reduced_rows.specs.Rows.{reduced_of}
 use Rattle.admission.specs.Admission.{code_fault}
 use Rattle.decoder.proofs.SyndromeLaws.{generators-pass}
-use Rattle.reporting.specs.Report.{Asked, refusal_text, code_text, report_of_asked, report_of_code, report_of_lines}
+use Rattle.reporting.specs.Report.{refusal_text, code_text, report_of_syndromes, report_of_code, report_of_lines}
 use Rattle.reporting.specs.Report.{report_text, write_report}
 use Rattle.reporting.specs.Statements.{GuaranteedReport}
 use Rattle.reporting.proofs.Brief.{Brief, code-brief, claim-few}
 use Rattle.reporting.proofs.BriefReading.{lines-brief, stopped-brief}
 use Rattle.reporting.proofs.Guarantee.{guarantee-in-reports}
-use Rattle.reporting.proofs.Report.{report-by-fault, report-by-lines}
+use Rattle.reporting.proofs.Report.{report-by-fault}
 use Rattle.reporting.proofs.Steps.{lines_from}
 use Rattle.refusal_writer.specs.RefusalLines.{errors_fault, pair_fault, write_refusal}
 use Rattle.refusal_writer.proofs.RefusalCall.{refusal-is-written}
-use Rattle.asked_lines.specs.declared.AskedLines.{AskedLines}
-use Rattle.asked_lines.specs.AskedLines.{check_asked, lines_fault}
-use Rattle.asked_lines.specs.Statements.{AskedAreRead}
-use Rattle.asked_lines.proofs.InReports.{asked-lines-are-read}
+use Rattle.syndrome_lines.specs.declared.SyndromeLines.{SyndromeLines}
+use Rattle.syndrome_lines.specs.SyndromeLines.{checkLines, lines_fault}
+use Rattle.syndrome_lines.proofs.InReports.{syndrome-lines-are-read}
 use Rattle.correction_lines.proofs.InReports.{correction-lines-are-reported}
 use Rattle.account_writer.specs.Account.{account_text, write_account}
 use Rattle.account_writer.proofs.Account.{account-is-of-record}
@@ -60,15 +60,6 @@ brief-written refusal brief buffer =
         → errors_fault errors ≡ none
     by-errors none on = refl
     by-errors (some pair) on = let q = on pair refl in qubits-within pair.n q.0 q.1
-
--- Nor has a fault of the lines behind w any errors.
-lines-without-errors : (at : ℕ) (lines : AskedLines) (refusal : Refusal) → lines_fault at lines ≡ some refusal
-    → pair_fault refusal ≡ none
-unfolding lines_fault pair_fault errors_fault
-lines-without-errors at AskedLines.Read refusal e = absurd (none-ne-some refusal e)
-lines-without-errors at (AskedLines.NoSyndrome m) refusal e = ap pair_fault (sym (some-injective _ refusal e))
-lines-without-errors at (AskedLines.NoMarks m) refusal e = ap pair_fault (sym (some-injective _ refusal e))
-lines-without-errors at (AskedLines.TooManyMarks m) refusal e = ap pair_fault (sym (some-injective _ refusal e))
 
 -- ---- the lines were refused
 
@@ -156,40 +147,43 @@ module _ (input buffer : List ℕ) where
         ∙ as-report (report-by-fault input g.read g.rest g.lines (some refusal) fault)
 
     module _ (faultless : code_fault at own ≡ none) where
+      report-by-lines : (p : Parsed (List (List Bool))) → lines_from own (at + 1) g.rest ≡ p
+          → report_text input ≡ report_of_syndromes own p
+      unfolding report_of_code
+      report-by-lines p e =
+          report-by-fault input g.read g.rest g.lines none faultless ∙ ap (report_of_syndromes own) e
+
       group-passes : group_fault own ≡ none
       unfolding group_fault
       group-passes = sym (within-later own _ lawful.limits) ∙ generators-pass at own faultless
 
-      lines-law : AskedAreRead own
-      lines-law =
-          let l = limits own lawful.limits in
-          asked-lines-are-read own (omega (arith, l.qubits)) (omega (arith, l.qubits, l.generator_count))
-
-      by_lines : {p : Parsed (List Asked)} → lines_from own (at + 1) g.rest ≡ p
-          → report_text input ≡ report_of_asked own p
-      by_lines e = report-by-lines input g.read g.rest g.lines faultless ∙ ap (report_of_asked own) e
+      few-rows : own.r ≤ row_room
+      few-rows = omega (arith, (limits own lawful.limits).generator_count, (limits own lawful.limits).qubits)
 
       -- The rows that the checks gave are the record's canonical generators.
       module _
           (hs : ReducedRows) (found : hs ≡ reduced_of own.n (canonical_generators own.n (generators own))) where
-        account-is : (all : List Asked) → lines_from own (at + 1) g.rest ≡ got all []
+        account-is : (syndromes : List (List Bool)) → lines_from own (at + 1) g.rest ≡ got syndromes []
             → write_account own hs g.rest buffer ≡ write_report input buffer
-        unfolding account_text report_of_asked
-        account-is all lines =
+        unfolding account_text report_of_syndromes
+        account-is syndromes lines =
             ap (λ (rows : ReducedRows). write_account own rows g.rest buffer) found
             ∙ account-is-of-record own group-passes g.rest buffer
             ∙ ap (λ (corrections : List ℕ). written none (code_text own ++ corrections) buffer)
-            (correction-lines-are-reported own (at + 1) g.rest all lawful.sized lawful.limits lines)
-            ∙ as-report (by_lines lines)
+            (correction-lines-are-reported own (at + 1) g.rest syndromes lawful.sized lawful.limits lines)
+            ∙ as-report (report-by-lines (got syndromes []) lines)
 
-        by-fault : (fault : Option Refusal)
-            → lines_fault (at + 1) (check_asked own.n own.r (own.d - 1) g.rest) ≡ fault
-            → write_by_fault own hs g.rest buffer fault ≡ write_report input buffer
-        unfolding write_by_fault report_of_asked
-        by-fault none e = let (all, lines) = lines-law.all_read (at + 1) g.rest e in account-is all lines
-        by-fault (some refusal) e =
-            let stopped = lines-law.one_refused (at + 1) g.rest refusal e in
-            refusal-is-written refusal buffer (lines-without-errors (at + 1) _ refusal e) ∙ as-report (by_lines stopped)
+        by_lines : (checked : SyndromeLines) → checkLines own.r g.rest ≡ checked
+            → write_by_fault own hs g.rest buffer (lines_fault (at + 1) checked) ≡ write_report input buffer
+        unfolding write_by_fault lines_fault report_of_syndromes pair_fault errors_fault
+        by_lines SyndromeLines.Read e =
+            let told = syndrome-lines-are-read.read own (at + 1) g.rest (ap (lines_fault (at + 1)) e) in
+            account-is told.0 told.1
+        by_lines (SyndromeLines.OffForm m) e =
+            refusal-is-written (Refusal.Syndrome (at + 1 + m)) buffer refl
+            ∙ as-report
+            (report-by-lines _
+            (syndrome-lines-are-read.off_form own (at + 1) g.rest _ few-rows (ap (lines_fault (at + 1)) e)))
 
       pub checked-report : (hs : ReducedRows)
           → hs ≡ reduced_of reading.code.n (canonical_generators reading.code.n (generators reading.code))
@@ -199,9 +193,9 @@ module _ (input buffer : List ℕ) where
       checked-report hs found =
           ap₂ (λ (c : Code) (m : ℕ). write_checked c hs m (behind input reading.answer) buffer) g.code g.claim
           ∙ ap (λ (s : List ℕ). write_checked own hs at s buffer) g.left
-          ∙ by-fault hs
+          ∙ by_lines hs
           (found ∙ ap (λ (c : Code). reduced_of c.n (canonical_generators c.n (generators c))) g.code)
-          (lines_fault (at + 1) (check_asked own.n own.r (own.d - 1) g.rest)) refl
+          (checkLines own.r g.rest) refl
 
     -- The numbers of the lines behind w are small.
     pub few-lines : reading.claim_at + length (behind input reading.answer) + 1 < 2 ^ 64

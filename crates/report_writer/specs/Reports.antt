@@ -1,12 +1,12 @@
 -- The report of a code that passed its checks, by the check of the lines behind its sheet.
-use Rattle.std.specs.Prelude.{List, ℕ, ◌+◌, ◌-◌}
+use Rattle.std.specs.Prelude.{List, ℕ, ◌+◌}
 use Rattle.std.proofs.Math.Option.{Option, none, some}
 use Rattle.code_record.specs.declared.Code.{Code}
 use Rattle.refusals.specs.declared.Refusal.{Refusal}
 use Rattle.refusals.specs.declared.Written.{Written}
 use Rattle.sheet.specs.Text.{After}
 use Rattle.reduced_rows.specs.declared.ReducedRows.{ReducedRows}
-use Rattle.asked_lines.specs.AskedLines.{check_asked, lines_fault}
+use Rattle.syndrome_lines.specs.SyndromeLines.{checkLines, lines_fault}
 use Rattle.refusal_writer.specs.RefusalLines.{write_refusal}
 use Rattle.account_writer.specs.Account.{write_account}
 
@@ -15,8 +15,7 @@ unfoldable pub write_by_fault : Code → ReducedRows → List ℕ → List ℕ �
 write_by_fault c hs s buffer none = write_account c hs s buffer
 write_by_fault c hs s buffer (some refusal) = write_refusal refusal buffer
 
--- RULES, "The report" and "Lost qubits": 16, 18 or 19 at the first line behind w that is at fault. w is on the line
--- `at`, and the first of them on the line behind it.
+-- RULES, "The report": 16 at the first line behind w that is no syndrome's. w is on the line `at`, and the first of
+-- them on the line behind it.
 unfoldable pub write_checked : Code → ReducedRows → ℕ → List ℕ → List ℕ → After Written
-write_checked c hs at s buffer =
-    write_by_fault c hs s buffer (lines_fault (at + 1) (check_asked c.n c.r (c.d - 1) s))
+write_checked c hs at s buffer = write_by_fault c hs s buffer (lines_fault (at + 1) (checkLines c.r s))

@@ -1,35 +1,19 @@
 // The report's call: the bytes of a sheet and its syndromes, to the bytes of a report.
 ghost use Rattle.std.specs.Prelude.{◌≡◌, ◌+◌, ◌<◌, ◌^◌, length};
-ghost use Rattle.refusals.specs.Refusals.{checked_refusal};
-ghost use Rattle.asked_lines.specs.AskedLines.{lines_before, lines_fault};
 ghost use Rattle.reporting.specs.Report.{write_report};
 ghost use Rattle.reporting.specs.Statements.{GuaranteedReport};
 ghost use Rattle.report_writer.specs.Reports.{write_checked};
 
 use account_writer::write_account;
-use asked_lines::{AskedLines, check_asked};
 use code_checks::check_code;
 use code_record::Code;
-use marks_reader::most_marks;
 use reduced_rows::ReducedRows;
 use refusal_writer::write_refusal;
 use refusals::{Checked, Lines, Refusal, Written};
+use syndrome_lines::{SyndromeLines, check_syndromes};
 
-// The first fault of the lines behind w, of which the first is numbered `first`: 16, 18 or 19.
-fn line_fault(lines: AskedLines, first: usize) -> Checked
-    requires { first + lines_before lines < 2 ^ 64 }
-    ensures { checked_refusal result ≡ lines_fault first lines }
-{
-    match lines {
-        AskedLines::Read => Checked::Passed,
-        AskedLines::NoSyndrome(count) => Checked::Refused(Refusal::Syndrome(first + count)),
-        AskedLines::NoMarks(count) => Checked::Refused(Refusal::Marks(first + count)),
-        AskedLines::TooManyMarks(count) => Checked::Refused(Refusal::MarkCount(first + count)),
-    }
-}
-
-// What a report says of a code that passed its checks, with w on the line `at` and these bytes behind it: the first
-// fault of the lines there, or the account of the code, by the canonical generators that the checks gave.
+// What a report says of a code that passed its checks, with w on the line `at` and these bytes behind it: 16 at the
+// first line that is no syndrome's, or the account of the code, by the canonical generators that the checks gave.
 fn report_of_code(
     code: Code,
     reduced: ReducedRows,
@@ -41,16 +25,15 @@ fn report_of_code(
     ensures value { result ≡ (write_checked code reduced at behind.now out.old).answer }
     ensures out_after { out.new ≡ (write_checked code reduced at behind.now out.old).buffer }
 {
-    let lines = check_asked(behind, code.n, code.r, most_marks(code.d));
-    match line_fault(lines, at + 1) {
-        Checked::Passed => write_account(code, reduced, behind, out),
-        Checked::Refused(refusal) => write_refusal(refusal, out),
+    match check_syndromes(behind, code.r) {
+        SyndromeLines::Read => write_account(code, reduced, behind, out),
+        SyndromeLines::OffForm(before) => { write_refusal(Refusal::Syndrome(at + 1 + before), out) }
     }
 }
 
-// The report of an input, into an output buffer: its refusals 1 to 14, 16, 18 and 19 as text, or the account of its
-// code. 17 is the call's own refusal, where the buffer is shorter than the report. The bytes behind the report stay,
-// and 17 leaves the whole buffer.
+// The report of an input, into an output buffer: its refusals 1 to 14 and 16 as text, or the account of its code. 17 is
+// the call's own refusal, where the buffer is shorter than the report. The bytes behind the report stay, and 17 leaves
+// the whole buffer.
 pub fn write_report(input: &[u8], out: &mut [u8]) -> Written
     ensures value { result ≡ (write_report input.now out.old).answer }
     ensures out_after { out.new ≡ (write_report input.now out.old).buffer }

@@ -29,12 +29,12 @@ last_line = 5000
 
 -- The errors are on 2 to 24 qubits, in two lines with a key and a line feed each.
 pub record Brief (refusal : Refusal) : Type 0 where
-  pub number : (values refusal).number ≤ 19
+  pub number : (values refusal).number ≤ 17
   pub line : (values refusal).line ≤ last_line
   pub errors : length (errors_text (values refusal).errors) ≤ 54
   pub qubits : (pair : ErrorPair) → (values refusal).errors ≡ some pair → (2 ≤ pair.n) × (pair.n ≤ most_qubits)
 
-pub brief : (refusal : Refusal) → (values refusal).number ≤ 19 → (values refusal).line ≤ last_line
+pub brief : (refusal : Refusal) → (values refusal).number ≤ 17 → (values refusal).line ≤ last_line
     → (values refusal).errors ≡ none → Brief refusal
 unfolding errors_text
 brief refusal number line none-carried = record {

@@ -1,18 +1,17 @@
 -- The refusals of a reading are brief, as text: reader by reader, each refusal names a line of the sheet, and the rows
--- between two lines are counted. Behind w a bad line has no more lines before it than there are bytes.
+-- between two lines are counted.
 use mathlib.Core.Bool.{Bool, true, false, cond, ◌||◌}
-use mathlib.Core.List.{List, [], ◌∷◌, flat_map}
+use mathlib.Core.List.{List}
 use mathlib.Core.Option.{Option}
-use mathlib.Core.Path.{◌≡◌, refl, ap}
+use mathlib.Core.Path.{◌≡◌, refl}
 use Prim.Native.Nat.{ℕ, zero, suc, ◌+◌, ◌*◌, ◌≤◌}
 use Prim.Native.String.{String}
 use native.Mathlib.Omega.{arith}
 use borrow.Author.Tests.{ltb-false}
 use lib.Dec.{lit≤, eqb, ltb}
-use lib.ListN.{length, take, drop, length-append}
+use lib.ListN.{length, take, drop}
 use Rattle.pauli.specs.declared.Pauli.{Pauli}
 use Rattle.letters.specs.Lists.{bytes}
-use Rattle.code_record.specs.declared.Code.{Code}
 use Rattle.refusals.specs.declared.Refusal.{Refusal}
 use Rattle.code_record.specs.Record.{most_qubits, most_distance, longest_input, first_generator_at, pair_count}
 use Rattle.code_record.specs.Record.{most_generators}
@@ -23,11 +22,7 @@ use Rattle.sheet.specs.Reader.{read_letters}
 use Rattle.sheet.specs.Reader.{in_range, qubit_line, distance_line, row_line, rows_up_to, counted_generators, generator_lines}
 use Rattle.sheet.specs.Reader.{counted_logicals, logical_lines, claim_line, lines_after, sheet_lines, read_lines}
 use Rattle.sheet.proofs.Outcome.{Outcome, gets, stops, continue-outcome, cond-outcome, got_or-outcome}
-use Rattle.reporting.specs.Report.{Asked}
-use Rattle.reporting.specs.Statements.{all_asked_text, all_lines, BadLine}
 use Rattle.reporting.proofs.Brief.{last_line, Brief, brief}
-use Rattle.reporting.proofs.Steps.{Misread}
-use Rattle.reporting.proofs.Syndromes.{lines-asked, bad-line-some}
 
 brief-form : (at : ℕ) → at ≤ last_line → Brief (Refusal.Form at)
 brief-form at h = brief (Refusal.Form at) (lit≤ tt) h refl
@@ -136,40 +131,3 @@ stopped-brief s refusal e = of-stop (rw e at (lines-brief s))
   where
     of-stop : Outcome (λ (q : SheetRead) (rest : List ℕ). length s ≤ longest_input) Brief (stop refusal) → Brief refusal
     of-stop (stops h) = h
-
--- ---- behind w
-
--- Each line has a byte at least, so no line that is named is far away.
-all-lines-few : (asked : List Asked) → all_lines asked ≤ length (all_asked_text asked)
-unfolding flat_map
-all-lines-few [] = lit≤ tt
-all-lines-few (one ∷ more) = rw length-append (omega (arith, lines-asked one, all-lines-few more))
-
-module _ (c : Code) where
-  bad-line-brief : (at : ℕ) (s : List ℕ) (refusal : Refusal) → BadLine c at s refusal → at + length s ≤ last_line
-      → Brief refusal
-  bad-line-brief at s refusal bad near = go bad
-    where
-      here : at + 1 ≤ last_line
-      here = omega (arith, bad-line-some c at s refusal bad)
-
-      go : {refusal : Refusal} → BadLine c at s refusal → Brief refusal
-      go (BadLine.bad_syndrome some off none-there) = brief (Refusal.Syndrome at) (lit≤ tt) (omega (arith, here)) refl
-      go (BadLine.bad_marks on none-there) = brief (Refusal.Marks at) (lit≤ tt) (omega (arith, here)) refl
-      go (BadLine.unfollowed marks behind counted e off) =
-          brief (Refusal.Marks at) (lit≤ tt) (omega (arith, here)) refl
-      go (BadLine.too_many marks behind counted e on many) =
-          brief (Refusal.MarkCount at) (lit≤ tt) (omega (arith, here)) refl
-      go (BadLine.bad_behind marks behind counted e on few none-there) =
-          brief (Refusal.Syndrome (at + 1)) (lit≤ tt) here refl
-
-  pub misread-brief : (at : ℕ) (s : List ℕ) (refusal : Refusal) → Misread c at s refusal → at + length s ≤ last_line
-      → Brief refusal
-  misread-brief at s refusal m near =
-      bad-line-brief (at + all_lines m.asked) m.rest refusal m.bad
-      (omega (
-        arith,
-        all-lines-few m.asked,
-        ap length m.bytes-are,
-        length-append (all_asked_text m.asked) m.rest,
-      ))

@@ -1,14 +1,15 @@
--- Every report is of one of four kinds: an input is not read, or is a sheet and bytes behind it. The sheet has a fault
--- or is admitted; and behind an admitted sheet, any bytes are lines of what may be asked and then nothing, or a bad
--- line.
-use mathlib.Core.List.{List, [], ◌∷◌, ◌++◌, append-nil}
+-- Every report is of one of four kinds: an input is not read, or is a sheet and bytes behind it. The sheet has a
+-- fault or is admitted; and behind an admitted sheet, any bytes are lines of syndromes and then nothing, or a line
+-- that is none.
+use mathlib.Core.Bool.{Bool}
+use mathlib.Core.List.{List, [], ◌∷◌, ◌++◌, flat_map, append-nil, append_assoc}
+use mathlib.Core.Logic.{◌⊎◌, inl, inr}
 use mathlib.Core.Option.{Option, none, some}
 use mathlib.Core.Path.{◌≡◌, refl, ap, sym, ◌∙◌}
-use Prim.Native.Nat.{ℕ, ◌+◌}
-use native.Mathlib.Bridge.{le_prop}
+use Prim.Native.Nat.{ℕ, zero, suc, ◌≤◌, ◌<◌}
 use native.Mathlib.Nat.{ℕ_set}
 use native.Mathlib.Omega.{arith}
-use lib.ListN.{length}
+use lib.ListN.{length, length-append}
 use Rattle.letters.specs.Lists.{any_of}
 use Rattle.code_record.specs.declared.Code.{Code}
 use Rattle.refusals.specs.declared.Refusal.{Refusal}
@@ -19,17 +20,71 @@ use Rattle.sheet.specs.Statements.{Among}
 use Rattle.sheet.specs.Writer.{sheet_text}
 use Rattle.sheet.proofs.Lengths.{sheet_text-le}
 use Rattle.sheet.proofs.Numbers.{law-of-refusal, sheet-refusal-numbers}
-use Rattle.sheet.proofs.Outcome.{Outcome, gets, stops}
+use Rattle.sheet.proofs.Outcome.{what_was-got}
 use Rattle.sheet.proofs.ReadBack.{reads-are-lawful, write-after-read}
-use Rattle.stabilizer.proofs.All.{All}
 use Rattle.admission.specs.Admission.{code_fault, admitted, checked, reading_of, read_sheet}
 use Rattle.admission.proofs.Refusals.{OfChecks, law-of-fault, checks-refuse}
-use Rattle.reporting.specs.Report.{Asked, unmarked, marked, report_of_asked, report_of_code, report_of_lines}
-use Rattle.reporting.specs.Report.{report_text}
-use Rattle.reporting.specs.Statements.{all_asked_text, MayBeAsked, MayAllBeAsked, BadLine, ReportOf, EveryReport}
+use Rattle.reporting.specs.Report.{syndrome_line, report_of_code, report_of_lines, report_text}
+use Rattle.reporting.specs.Statements.{syndrome_line_text, syndromes_text, HaveBits, NoSyndrome, ReportOf}
+use Rattle.reporting.specs.Statements.{EveryReport}
 use Rattle.reporting.proofs.Lists.{member-of-all}
-use Rattle.reporting.proofs.Report.{report-by-fault, report-by-lines, lawful-returns}
-use Rattle.reporting.proofs.Steps.{Misread, all-asked-outcome}
+use Rattle.reporting.proofs.Report.{report-by-fault, report-answered, report-misread, lawful-returns}
+use Rattle.reporting.proofs.Steps.{syndrome-line-outcome}
+use Rattle.reporting.proofs.Syndromes.{HaveRBits, length-syndrome-line, line_read}
+
+-- ---- the lines of syndromes that bytes begin with
+
+module _ (c : Code) where
+  record Split (s : List ℕ) : Type 0 where
+    syndromes : List (List Bool)
+    rest : List ℕ
+    counts : HaveRBits c syndromes
+    bytes-are : s ≡ syndromes_text syndromes ++ rest
+    ended : (rest ≡ []) ⊎ ((0 < length rest) × NoSyndrome c.r rest)
+
+  split-nothing : Split []
+  unfolding flat_map
+  split-nothing = record { syndromes = []; rest = []; counts = tt; bytes-are = refl; ended = inl refl }
+
+  split-more : (s : List ℕ) (bits : List Bool) (behind : List ℕ) → length bits ≡ c.r
+      → s ≡ syndrome_line_text bits ++ behind → Split behind → Split s
+  unfolding flat_map
+  split-more s bits behind count e more =
+      record {
+        syndromes = bits ∷ more.syndromes;
+        rest = more.rest;
+        counts = (count, more.counts);
+        bytes-are = e ∙ ap (λ (t : List ℕ). syndrome_line_text bits ++ t) more.bytes-are
+            ∙ sym (append_assoc (syndrome_line_text bits) (syndromes_text more.syndromes) more.rest);
+        ended = more.ended;
+      }
+
+  split-bad : (s : List ℕ) (refusal : Refusal) → 0 < length s → syndrome_line c 0 s ≡ stop refusal → Split s
+  unfolding flat_map
+  split-bad s refusal there e =
+      record { syndromes = []; rest = s; counts = tt; bytes-are = refl; ended = inr (there, none-there) }
+    where
+      none-there : NoSyndrome c.r s
+      none-there bits behind count at =
+          let read : got bits behind ≡ stop refusal =
+          sym (line_read c 0 bits behind count) ∙ ap (syndrome_line c 0) (sym at) ∙ e in
+          let never : ◌≡◌ {A = ℕ} 0 1 = cc in absurd (omega arith)
+
+  split-lines : (most : ℕ) (s : List ℕ) → length s ≤ most → Split s
+  split-lines zero [] few = split-nothing
+  split-lines (suc most) [] few = split-nothing
+  split-lines zero (b ∷ s) few = absurd (omega arith)
+  split-lines (suc most) (b ∷ s) few =
+      go (syndrome_line c 0 (b ∷ s)) refl (λ behind h. split-lines most behind (omega arith))
+    where
+      go : (p : Parsed (List Bool)) → syndrome_line c 0 (b ∷ s) ≡ p
+          → ((behind : List ℕ) → length behind < length (b ∷ s) → Split behind) → Split (b ∷ s)
+      go (got bits behind) e later =
+          let took = what_was-got (syndrome-line-outcome c 0 (b ∷ s)) e in
+          let counts = ap length took.bytes_read ∙ length-append (syndrome_line_text bits) behind in
+          split-more (b ∷ s) bits behind took.lawful took.bytes_read
+          (later behind (omega (arith, length-syndrome-line bits)))
+      go (stop refusal) e later = split-bad (b ∷ s) refusal (omega arith) e
 
 -- ---- the numbers
 
@@ -52,21 +107,7 @@ checks-number at c refusal OfChecks.twelve = refl
 checks-number at c refusal OfChecks.thirteen = refl
 checks-number at c refusal (OfChecks.fourteen s) = refl
 
-bad-line-number : {c : Code} {at : ℕ} {s : List ℕ} (refusal : Refusal) → BadLine c at s refusal
-    → Among (16 ∷ 18 ∷ 19 ∷ []) refusal
-unfolding any_of
-bad-line-number refusal (BadLine.bad_syndrome there off bad) = refl
-bad-line-number refusal (BadLine.bad_marks on bad) = refl
-bad-line-number refusal (BadLine.unfollowed marks behind counted e off) = refl
-bad-line-number refusal (BadLine.too_many marks behind counted e on many) = refl
-bad-line-number refusal (BadLine.bad_behind marks behind counted e on few bad) = refl
-
 -- ---- a sheet that was read, and what stands behind it
-
-may-be-asked-prop : (c : Code) (one : Asked) → IsProp (MayBeAsked c one)
-may-be-asked-prop c (unmarked bits) = ℕ_set (length bits) c.r
-may-be-asked-prop c (marked marks bits) = λ p q i.
-    (ℕ_set (length marks) c.n p.0 q.0 i, le_prop p.1 q.1 i, ℕ_set (length bits) c.r p.2 q.2 i)
 
 module _ (input : List ℕ) (q : SheetRead) (rest : List ℕ) (lines : read_lines input ≡ got q rest) where
   abbrev c : Code
@@ -91,25 +132,27 @@ module _ (input : List ℕ) (q : SheetRead) (rest : List ℕ) (lines : read_line
   input-is : {behind : List ℕ} → rest ≡ behind → input ≡ sheet ++ behind
   input-is e = sym (write-after-read input q rest lines) ∙ ap (λ (t : List ℕ). sheet ++ t) e
 
-  members : (asked : List Asked) → All (MayBeAsked c) asked → MayAllBeAsked c asked
-  members = member-of-all (MayBeAsked c) (may-be-asked-prop c)
+  members : (split : Split c rest) → HaveBits c.r split.syndromes
+  members split = member-of-all _ (λ bits. ℕ_set (length bits) c.r) split.syndromes split.counts
 
-  -- By what was read of the lines behind w.
-  report-behind : code_fault q.claim_at c ≡ none → {p : Parsed (List Asked)} → report_text input ≡ report_of_asked c p
-      → Outcome (λ asked end. All (MayBeAsked c) asked × (rest ≡ all_asked_text asked))
-      (Misread c (q.claim_at + 1) rest) p → ReportOf input
-  unfolding report_of_asked
-  report-behind faultless e (gets {a = asked} (all, text)) =
-      ReportOf.answered sheet c asked (input-is text) (sheet-admitted faultless) (members asked all) e
-  report-behind faultless e (stops {refusal} m) =
-      ReportOf.misread sheet m.rest q m.asked refusal (input-is m.bytes-are) sheet-form
-      (sheet-admitted faultless) (members m.asked m.lawful) m.bad (bad-line-number refusal m.bad) e
+  report-split : code_fault q.claim_at c ≡ none → (split : Split c rest)
+      → (split.rest ≡ []) ⊎ ((0 < length split.rest) × NoSyndrome c.r split.rest) → ReportOf input
+  report-split faultless split (inl e) =
+      let syndromes = split.syndromes in
+      let all_read : rest ≡ syndromes_text syndromes =
+      split.bytes-are ∙ ap (λ (t : List ℕ). syndromes_text syndromes ++ t) e ∙ append-nil _ in
+      ReportOf.answered sheet c syndromes (input-is all_read) (sheet-admitted faultless) (members split)
+      (report-answered input q rest lines faultless syndromes split.counts all_read)
+  report-split faultless split (inr (there, bad)) =
+      ReportOf.misread sheet split.rest q split.syndromes (input-is split.bytes-are) sheet-form
+      (sheet-admitted faultless) (members split) there bad
+      (report-misread input q rest lines faultless split.syndromes split.counts split.rest split.bytes-are
+      there bad)
 
   report-read : (fault : Option Refusal) → code_fault q.claim_at c ≡ fault → ReportOf input
   unfolding report_of_code
   report-read none e =
-      report-behind e (report-by-lines input q rest lines e)
-      (all-asked-outcome c (length rest) (q.claim_at + 1) rest (omega arith))
+      let split = split-lines c (length rest) rest (omega arith) in report-split e split split.ended
   report-read (some refusal) e =
       ReportOf.faulty sheet rest q refusal (input-is refl) sheet-form e
       (law-of-refusal (law-of-fault (checks-number q.claim_at c) (checks-refuse q.claim_at c)) refusal e)

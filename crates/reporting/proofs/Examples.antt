@@ -1,5 +1,5 @@
 -- Reports at the edges, computed: codes that tell right from nearly right, the largest n, faults in the `s=` lines,
--- lost qubits, a short buffer.
+-- a short buffer.
 use mathlib.Core.List.{List, [], ◌∷◌, ◌++◌, map, Memᴰ}
 use mathlib.Core.Path.{◌≡◌, refl}
 use Prim.Native.String.{String, ◌++◌ as ◌⧺◌}
@@ -15,11 +15,10 @@ use Rattle.code_record.specs.declared.Code.{Code}
 use Rattle.refusals.specs.declared.Refusal.{Refusal}
 use Rattle.refusals.specs.declared.Written.{Written}
 use Rattle.code_record.specs.Record.{code_of}
-use Rattle.sheet.specs.Edges.{nine_qubits, eight_qubits, four_qubits, sheet_a, sheet_c, sheet_k}
+use Rattle.sheet.specs.Edges.{nine_qubits, eight_qubits, four_qubits, sheet_c, sheet_k}
 use Rattle.sheet.specs.Text.{line_feed, untouched}
 use Rattle.sheet.specs.Writer.{sheet_text}
 use Rattle.reporting.specs.Definitions.{definitions}
-use Rattle.reporting.specs.WithoutMarks.{unmarked_report}
 use Rattle.reporting.specs.Report.{report_text, write_report}
 
 record Entry : Type 0 where
@@ -36,13 +35,12 @@ others =
           "n=9\nk=1\nd=3\nt=1\nh=+XXXIIIXXX\nh=+IIIXXXXXX\nh=+ZIZIIIIII\nh=+IZZIIIIII\nh=+IIIZIZIII\nh=+IIIIZZIII\n"
           ⧺ "h=+IIIIIIZIZ\nh=+IIIIIIIZZ\nc=IIZIIIIII\n";
     }
-    -- Five qubits and a sixth with the generator X: Y and Z on it share a syndrome, and Y is earlier; on marks too.
+    -- Five qubits and a sixth with the generator X: Y and Z on it share a syndrome, and Y is earlier.
     ∷ record {
       input =
           "n=6\nd=3\ng=+XZZXII\ng=+IXZZXI\ng=+XIXZZI\ng=+ZXIXZI\ng=-IIIIIX\nx=+XXXXXI\nz=+ZZZZZI\nw=IYYIXI\n"
-          ⧺ "s=00001\nl=100001\ns=00001\n";
-      output =
-          "n=6\nk=1\nd=3\nt=1\nh=+YZIZYI\nh=+IXZZXI\nh=+ZZXIXI\nh=+ZIZYYI\nh=-IIIIIX\nc=IIIIIY\nc=IIIIIY\n";
+          ⧺ "s=00001\n";
+      output = "n=6\nk=1\nd=3\nt=1\nh=+YZIZYI\nh=+IXZZXI\nh=+ZZXIXI\nh=+ZIZYYI\nh=-IIIIIX\nc=IIIIIY\n";
     }
     -- A published code of eight qubits, three of them logical.
     ∷ record {
@@ -63,62 +61,13 @@ others =
     ∷ record { input = sheet_k ⧺ "s=00\n"; output = "r=16\nat=7\n" }
     ∷ record { input = sheet_k ⧺ "s=2\n"; output = "r=16\nat=7\n" }
     ∷ record { input = sheet_k ⧺ "c=0\n"; output = "r=16\nat=7\n" }
-    -- Its distance is 1, so no qubit may be marked.
-    ∷ record { input = sheet_k ⧺ "l=00\ns=0\n"; output = "n=2\nk=1\nd=1\nt=0\nh=+ZZ\nc=II\n" }
-    ∷ record { input = sheet_k ⧺ "l=01\ns=0\n"; output = "r=19\nat=7\n" }
-    -- 14 comes before 16 and 18.
+    -- 14 comes before 16.
     ∷ record { input = sheet_c ⧺ "s=\n"; output = "r=14\nat=9\ne=IIXYI\nf=IIIIX\n" }
-    ∷ record { input = sheet_c ⧺ "l=\n"; output = "r=14\nat=9\ne=IIXYI\nf=IIIIX\n" }
     ∷ []
 
 others-right : (e : Entry) → Memᴰ e others → report_text (bytes e.input) ≡ bytes e.output
 unfolding others definitions
 others-right = each (λ e. report_text (bytes e.input)) (λ e. bytes e.output) others refl
-
--- ---- lost qubits
-
--- What a report has of A, and these lines behind it.
-with_a : String → String
-with_a corrections = "n=5\nk=1\nd=3\nt=1\nh=+YZIZY\nh=+IXZZX\nh=+ZZXIX\nh=+ZIZYY\n" ⧺ corrections
-
--- Lines behind A, whose w is line 9. Its distance is 3, so two qubits may be marked.
-behind_a : List Entry
-behind_a =
-    -- With two qubits marked the correction weighs 2, which is more than t. The marks are for one line only, and
-    -- without them the same syndrome has a correction of weight 1.
-    record { input = "l=11000\ns=1001\ns=1001\n"; output = with_a "c=XXIII\nc=IIIZI\n" }
-    ∷ record { input = "s=0101\nl=00011\ns=0101\n"; output = with_a "c=IZIII\nc=IIIXX\n" }
-    -- Where no Pauli on the marked qubits has the syndrome there is no correction.
-    ∷ record { input = "l=10000\ns=1001\nl=00000\ns=0000\n"; output = with_a "c=none\nc=IIIII\n" }
-    -- 18: an `l=` line off its form.
-    ∷ record { input = "l=1100\ns=1001\n"; output = "r=18\nat=10\n" }
-    ∷ record { input = "l=110000\ns=1001\n"; output = "r=18\nat=10\n" }
-    ∷ record { input = "l=11002\ns=1001\n"; output = "r=18\nat=10\n" }
-    ∷ record { input = "s=1001\nl=11000"; output = "r=18\nat=11\n" }
-    -- 18: no `s=` behind it, but the end of the input, another `l=` line or anything else. That comes before 19.
-    ∷ record { input = "l=11000\n"; output = "r=18\nat=10\n" }
-    ∷ record { input = "l=11000\nl=11000\ns=1001\n"; output = "r=18\nat=10\n" }
-    ∷ record { input = "l=11100\ns1001\n"; output = "r=18\nat=10\n" }
-    -- 19: three marks. That comes before 16 on the next line.
-    ∷ record { input = "l=11100\ns=1001\n"; output = "r=19\nat=10\n" }
-    ∷ record { input = "l=11100\ns=\n"; output = "r=19\nat=10\n" }
-    -- 16 behind a good `l=` line, and for a line that begins with neither key. Both lines count.
-    ∷ record { input = "l=11000\ns=100\n"; output = "r=16\nat=11\n" }
-    ∷ record { input = "l=11000\ns=1001\nl\n"; output = "r=16\nat=12\n" }
-    ∷ []
-
-behind_a-right : (e : Entry) → Memᴰ e behind_a → report_text (bytes (sheet_a ⧺ e.input)) ≡ bytes e.output
-unfolding behind_a with_a definitions
-behind_a-right = each (λ e. report_text (bytes (sheet_a ⧺ e.input))) (λ e. bytes e.output) behind_a refl
-
--- Without lines of marks the reports are those of syndromes alone, and with them they are not.
-unmarked-right :
-    map (λ lines. unmarked_report (bytes (sheet_a ⧺ lines))) ("s=1001\n" ∷ "s=1001\ns=10\n" ∷ "l=11000\ns=1001\n" ∷ [])
-    ≡ bytes (with_a "c=IIIZI\n") ∷ bytes "r=16\nat=11\n" ∷ bytes "r=16\nat=10\n" ∷ []
-unfolding with_a definitions
-unmarked-right = refl
-
--- ---- the whole input
 
 -- 1 comes before the sheet is looked at, and counts the `s=` lines too.
 too_long : report_text (bytes sheet_k ++ replicate 4066 line_feed) ≡ bytes "r=1\nat=0\n"

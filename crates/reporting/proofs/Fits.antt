@@ -1,5 +1,5 @@
--- The longest report has room: an input asks for at most 1,024 corrections, with 4 bytes at least, and each has a line
--- of at most 27 bytes; what stands before them, or a refusal in their place, is brief.
+-- The longest report has room: an input has at most 1,024 `s=` lines, of 4 bytes at least, and each has a line of
+-- at most 27 bytes; what stands before them, or a refusal in their place, is brief.
 use mathlib.Core.Bool.{Bool, true, false}
 use mathlib.Core.List.{List, [], ◌∷◌, ◌++◌, flat_map}
 use mathlib.Core.Option.{Option, none, some}
@@ -25,18 +25,15 @@ use Rattle.sheet.proofs.Numbers.{IfRefused}
 use Rattle.sheet.proofs.Outcome.{Outcome, gets, stops}
 use Rattle.sheet.proofs.ReadBack.{reads-are-lawful, read-within}
 use Rattle.stabilizer.specs.Canonical.{canonical_generators, canonical_text}
-use Rattle.stabilizer.proofs.All.{All}
 use Rattle.stabilizer.proofs.Theorems.{canonical-generators-are-counted}
+use Rattle.decoder.specs.Correction.{correction}
 use Rattle.decoder.proofs.Earliest.{correction-is-earliest}
-use Rattle.decoder.proofs.Marked.{marked-correction-is-earliest}
-use Rattle.reporting.specs.Report.{longest_report, refusal_text, Asked, unmarked, marked, answer_to}
-use Rattle.reporting.specs.Report.{correction_value, correction_line, code_text, report_of_asked, report_of_code}
-use Rattle.reporting.specs.Report.{report_of_lines, report_text}
-use Rattle.reporting.specs.Statements.{ReportFits, asked_text, all_asked_text, MayBeAsked}
-use Rattle.reporting.proofs.Brief.{last_line, Brief, code-brief, claim-few}
-use Rattle.reporting.proofs.BriefReading.{lines-brief, misread-brief}
-use Rattle.reporting.proofs.Steps.{Misread, all-asked-outcome}
-use Rattle.reporting.proofs.Syndromes.{length-syndrome-line, length-marks-line}
+use Rattle.reporting.specs.Report.{longest_report, refusal_text, correction_value, correction_line, code_text}
+use Rattle.reporting.specs.Report.{report_of_syndromes, report_of_code, report_of_lines, report_text}
+use Rattle.reporting.specs.Statements.{ReportFits, syndromes_text}
+use Rattle.reporting.proofs.Brief.{last_line, Brief, brief, code-brief, claim-few}
+use Rattle.reporting.proofs.BriefReading.{lines-brief}
+use Rattle.reporting.proofs.Syndromes.{HaveRBits, length-syndrome-lines, syndromes-outcome}
 
 -- ---- numbers and refusals
 
@@ -70,11 +67,16 @@ refusal-fits refusal h =
 
 -- ---- the length of a `c=` line
 
--- A correction has n letters, on marked qubits too.
-pub length-answer : (c : Code) (one : Asked) (s : List Letter) → answer_to c one ≡ some s → length s ≡ c.n
-unfolding answer_to
-length-answer c (unmarked bits) s e = ((correction-is-earliest c bits).found s e).0.letters
-length-answer c (marked marks bits) s e = ((marked-correction-is-earliest c marks bits).found s e).0.letters
+pub length-correction : (c : Code) (bits : List Bool) (s : List Letter) → correction c bits ≡ some s
+    → length (correction_line c bits) ≡ c.n + 3
+unfolding correction_line correction_value bytes
+length-correction c bits s e =
+    rw (length-line, e) (omega (arith, length-map s letter_byte, ((correction-is-earliest c bits).found s e).0.letters))
+
+pub length-no-correction : (c : Code) (bits : List Bool) → correction c bits ≡ none
+    → length (correction_line c bits) ≡ 7
+unfolding correction_line correction_value bytes
+length-no-correction c bits e = rw (length-line, e)
 
 -- ---- a report that is no refusal
 
@@ -106,46 +108,33 @@ module _ (c : Code) (sized : Sized c) (within : Limits c) where
         canonical-few,
       ))
 
-  correction-few : (one : Asked) → length (correction_line c one) ≤ 27
-  unfolding correction_line correction_value bytes
-  correction-few one = rw length-line (go (answer_to c one) refl)
+  correction-few : (bits : List Bool) → length (correction_line c bits) ≤ 27
+  correction-few bits = go (correction c bits) refl
     where
-      go : (o : Option (List Letter)) → answer_to c one ≡ o → 2 + length (correction_value o) + 1 ≤ 27
-      go none e = lit≤ tt
-      go (some s) e = omega (arith, length-map s letter_byte, length-answer c one s e, within.qubits)
+      go : (o : Option (List Letter)) → correction c bits ≡ o → length (correction_line c bits) ≤ 27
+      go none e = omega (arith, length-no-correction c bits e)
+      go (some s) e = omega (arith, length-correction c bits s e, within.qubits)
 
-  corrections-few : (asked : List Asked) → length (flat_map (correction_line c) asked) ≤ 27 * length asked
+  corrections-few : (syndromes : List (List Bool))
+      → length (flat_map (correction_line c) syndromes) ≤ 27 * length syndromes
   unfolding flat_map
   corrections-few [] = lit≤ tt
-  corrections-few (one ∷ more) = rw length-append (omega (arith, correction-few one, corrections-few more))
+  corrections-few (bits ∷ more) = rw length-append (omega (arith, correction-few bits, corrections-few more))
 
-  -- What is asked has four bytes at least: a key, a bit and a line feed.
-  asked-bytes : (one : Asked) → MayBeAsked c one → 4 ≤ length (asked_text one)
-  asked-bytes (unmarked bits) count = omega (arith, length-syndrome-line bits, within.generator_count)
-  asked-bytes (marked marks bits) may =
-      rw length-append (omega (arith, length-marks-line marks, length-syndrome-line bits))
-
-  asked-few : (asked : List Asked) → All (MayBeAsked c) asked → 4 * length asked ≤ length (all_asked_text asked)
-  unfolding flat_map
-  asked-few [] all = lit≤ tt
-  asked-few (one ∷ more) all =
-      rw length-append (omega (arith, asked-bytes one all.0, asked-few more all.1))
-
-  asked-fit : (at : ℕ) (rest : List ℕ) {p : Parsed (List Asked)} → length rest ≤ longest_input
-      → at + length rest ≤ last_line
-      → Outcome (λ asked end. All (MayBeAsked c) asked × (rest ≡ all_asked_text asked)) (Misread c at rest) p
-      → length (report_of_asked c p) ≤ longest_report
-  unfolding report_of_asked
-  asked-fit at rest few near (gets {a = asked} h) =
-      omega (
+  syndromes-fit : (rest : List ℕ) {p : Parsed (List (List Bool))} → length rest ≤ longest_input
+      → Outcome (λ syndromes end. HaveRBits c syndromes × (rest ≡ syndromes_text syndromes)) Brief p
+      → length (report_of_syndromes c p) ≤ longest_report
+  unfolding report_of_syndromes
+  syndromes-fit rest few (gets {a = syndromes} h) =
+      rw length-append
+      (omega (
         arith,
-        length-append (code_text c) (flat_map (correction_line c) asked),
         code-few,
-        corrections-few asked,
-        asked-few asked h.0,
+        corrections-few syndromes,
+        length-syndrome-lines c syndromes within.generator_count.0 h.0,
         ap length h.1,
-      )
-  asked-fit at rest few near (stops {refusal} h) = refusal-fits refusal (misread-brief c at rest refusal h near)
+      ))
+  syndromes-fit rest few (stops {refusal} h) = refusal-fits refusal h
 
 -- ---- every report
 
@@ -155,8 +144,9 @@ unfolding report_of_code
 code_fits q rest lawful few IfRefused.unrefused =
     let within = limits q.code lawful.limits in
     let near = claim-few q.code lawful.sized within in
-    asked-fit q.code lawful.sized within (q.claim_at + 1) rest few (omega (arith, lawful.claim))
-    (all-asked-outcome q.code (length rest) (q.claim_at + 1) rest (omega arith))
+    syndromes-fit q.code lawful.sized within rest few
+    (syndromes-outcome q.code (length rest) (q.claim_at + 1) last_line rest (omega (arith, lawful.claim))
+    (λ m last. brief (Refusal.Syndrome m) (lit≤ tt) last refl))
 code_fits q rest lawful few (IfRefused.refused {refusal} h) = refusal-fits refusal h
 
 pub report-fits : ReportFits

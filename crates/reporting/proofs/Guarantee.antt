@@ -1,13 +1,13 @@
 -- The third guarantee as a report shows it. The `c=` lines of errors have the letters of their corrections, since a
 -- report answers each syndrome as the decoder does; and a refuted distance has the four lines of the refusal, whose two
 -- errors are known from the decoder's guarantee to refute it and from admission to be from the earliest logical error.
-use mathlib.Core.List.{List, ◌++◌, append_assoc}
+use mathlib.Core.Bool.{Bool}
+use mathlib.Core.List.{List, ◌++◌, map, append_assoc}
 use mathlib.Core.Option.{some, some-injective}
 use mathlib.Core.Path.{◌≡◌, refl, ap, sym, subst, ◌∙◌}
 use Prim.Native.Nat.{ℕ, ◌≤◌}
 use lib.ListN.{length}
 use Rattle.letters.specs.Lists.{bytes}
-use Rattle.pauli.specs.declared.Pauli.{Pauli}
 use Rattle.pauli.specs.Syndrome.{syndrome}
 use Rattle.code_record.specs.declared.Code.{Code}
 use Rattle.refusals.specs.declared.ErrorPair.{ErrorPair}
@@ -17,27 +17,24 @@ use Rattle.code_record.specs.Record.{generators, longest_input}
 use Rattle.refusals.specs.Refusals.{values, ◌then◌}
 use Rattle.sheet.specs.Reader.{SheetRead}
 use Rattle.sheet.specs.Text.{line_feed, line, digits_of, decimal, After}
-use Rattle.stabilizer.proofs.All.{all-every}
+use Rattle.stabilizer.proofs.All.{all-every, all-mapped}
 use Rattle.admission.specs.declared.Admission.{Admission}
 use Rattle.admission.specs.Admission.{AdmissibleButForDistance, code_fault, read_sheet}
 use Rattle.admission.specs.Distance.{distance_fault}
 use Rattle.admission.specs.Statements.{ShowsEarliest}
+use Rattle.admission.proofs.Admitted.{admitted-as}
 use Rattle.admission.proofs.RefutingPair.{refusal-is-distance-fault, refuting-pair-is-from-earliest}
-use Rattle.decoder.specs.MarkedStatements.{IsCorrectedOnMarks}
 use Rattle.decoder.specs.Statements.{IsCorrected, Refutes, RefusedForDistance, Shows}
 use Rattle.decoder.proofs.Bits.{syndromes-have-r-bits}
 use Rattle.decoder.proofs.Guarantee.{errors-are-corrected, distance-is-decided}
-use Rattle.decoder.proofs.Marked.{lost-qubits-are-corrected}
-use Rattle.reporting.specs.Report.{errors_text, refusal_text, unmarked, marked, code_text, report_text, write_report}
-use Rattle.reporting.specs.Statements.{Struck, error_lines, corrected_lines, refutation_text}
-use Rattle.reporting.specs.Statements.{MarkedError, marked_error_lines, marked_corrected_lines}
+use Rattle.reporting.specs.Report.{errors_text, refusal_text, correction_line, code_text, report_text, write_report}
+use Rattle.reporting.specs.Statements.{syndrome_line_text, Struck, error_lines, corrected_lines, refutation_text}
 use Rattle.reporting.specs.Statements.{CorrectsInReport, AnswersInReport, RefutesInReport}
-use Rattle.reporting.specs.Statements.{CorrectsOnMarksInReport, AnswersAllInReport, GuaranteeInReports}
+use Rattle.reporting.specs.Statements.{GuaranteeInReports}
 use Rattle.reporting.proofs.Call.{is-reported}
-use Rattle.reporting.proofs.Lists.{same_lines}
-use Rattle.reporting.proofs.Report.{corrections-are-reported, marked-corrections-are-reported}
-use Rattle.reporting.proofs.Report.{refusals-are-reported, each-is-reported, asked-are-reported}
-use Rattle.reporting.proofs.Report.{syndromes-are-reported}
+use Rattle.reporting.proofs.Lists.{lines-of-mapped, same_lines}
+use Rattle.reporting.proofs.Report.{corrections-are-reported, refusals-are-reported}
+use Rattle.reporting.proofs.Report.{syndromes-are-reported, lines-before, report-answered}
 
 -- ---- corrections
 
@@ -48,29 +45,21 @@ module _ (s : List ℕ) (h : (read_sheet s).answer ≡ Admission.Admitted) where
   struck-corrected : (E : Struck own) → IsCorrected own E.error
   struck-corrected E = errors-are-corrected s h E.error E.on_code E.light
 
-  lost-corrected : (E : MarkedError own) → IsCorrectedOnMarks own E.marks E.error
-  lost-corrected E = lost-qubits-are-corrected s h E.marks E.error E.lost
-
-  -- The syndrome of an error has r bits.
-  counted : (E : Pauli) → length (syndrome (generators own) E) ≡ own.r
-  counted E = syndromes-have-r-bits.of_sheet s E h
+  abbrev bits : Struck own → List Bool
+  bits E = syndrome (generators own) E.error
 
   corrections-reported : (errors : List (Struck own)) → length (s ++ error_lines own errors) ≤ longest_input
       → report_text (s ++ error_lines own errors) ≡ code_text own ++ corrected_lines own struck-corrected errors
   corrections-reported errors few =
-      each-is-reported s h (λ (E : Struck own). unmarked (syndrome (generators own) E.error)) errors
-      (all-every _ (λ (E : Struck own). counted E.error) errors) few
+      let a = admitted-as s h in
+      let behind = error_lines own errors in
+      let counts = (all-mapped _ bits errors).1
+      (all-every _ (λ (E : Struck own). syndromes-have-r-bits.of_sheet s E.error h) errors) in
+      report-answered (s ++ behind) _ behind (lines-before s behind _ a.lines few) a.faultless (map bits errors)
+      counts (sym (lines-of-mapped syndrome_line_text bits errors))
       ∙ ap (λ (t : List ℕ). code_text own ++ t)
-      (same_lines _ _ (λ (E : Struck own). corrections-are-reported own E.error (struck-corrected E)) errors)
-
-  lost-reported : (errors : List (MarkedError own)) → length (s ++ marked_error_lines own errors) ≤ longest_input
-      → report_text (s ++ marked_error_lines own errors) ≡ code_text own ++ marked_corrected_lines own lost-corrected errors
-  lost-reported errors few =
-      each-is-reported s h (λ (E : MarkedError own). marked E.marks (syndrome (generators own) E.error)) errors
-      (all-every _ (λ (E : MarkedError own). (E.lost.counted, E.lost.few, counted E.error)) errors) few
-      ∙ ap (λ (t : List ℕ). code_text own ++ t)
-      (same_lines _ _ (λ (E : MarkedError own).
-      marked-corrections-are-reported own E.marks E.error (lost-corrected E)) errors)
+      (lines-of-mapped (correction_line own) bits errors
+      ∙ same_lines _ _ (λ (E : Struck own). corrections-are-reported own E.error (struck-corrected E)) errors)
 
 -- ---- a refuted distance
 
@@ -147,20 +136,6 @@ guarantee-in-reports input buffer = record {
       as-input input _ buffer e (RefutesInReport q buffer)
       (refuted-reported s rest q refused.0 lawful refused.1 (short e few) buffer);
   otherwise = distance-is-decided.otherwise;
-  lost = λ s h errors e few. as-input input _ buffer e (CorrectsOnMarksInReport (read_sheet s).code errors buffer)
-      (record {
-        corrected = lost-corrected s h;
-        writes = is-reported _ _ (lost-reported s h errors (short e few)) buffer;
-      });
-  mixed = λ s h asked may e few. as-input input _ buffer e (AnswersAllInReport (read_sheet s).code asked buffer)
-      (record {
-        corrected = struck-corrected s h;
-        shown = λ E. corrections-are-reported (read_sheet s).code E.error (struck-corrected s h E);
-        corrected_on_marks = lost-corrected s h;
-        shown_on_marks = λ E. marked-corrections-are-reported (read_sheet s).code E.marks E.error
-            (lost-corrected s h E);
-        writes = is-reported _ _ (asked-are-reported s asked h may (short e few)) buffer;
-      });
 }
   where
     short : {whole : List ℕ} → input ≡ whole → length input ≤ longest_input → length whole ≤ longest_input

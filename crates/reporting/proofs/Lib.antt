@@ -2,7 +2,6 @@ pub mod Lists
 pub mod Syndromes
 pub mod Steps
 pub mod Report
-pub mod WithoutMarks
 pub mod Logicals
 pub mod Brief
 pub mod BriefReading

@@ -1,10 +1,11 @@
 -- The report of a sheet that was read, with what stands behind it: the refusal of its checks; or the account of the
--- code and its corrections; or the refusal of the first bad line. Each is one clause of the definition, and the lines
--- behind w go by the steps of Steps.
-use mathlib.Core.List.{List, [], ◌++◌, map, flat_map, append-nil}
+-- code and its corrections; or 16 at the first line that is no syndrome's. Each is one clause of the definition,
+-- and the lines behind w go by the steps of Steps.
+use mathlib.Core.Bool.{Bool}
+use mathlib.Core.List.{List, [], ◌++◌, flat_map, append-nil}
 use mathlib.Core.Option.{Option, none}
 use mathlib.Core.Path.{◌≡◌, refl, ap, ap₂, sym, ◌∙◌}
-use Prim.Native.Nat.{ℕ, ◌+◌, ◌≤◌}
+use Prim.Native.Nat.{ℕ, ◌+◌, ◌≤◌, ◌<◌}
 use lib.ListN.{length}
 use Rattle.letters.specs.Lists.{any_of}
 use Rattle.letters.specs.declared.Letter.{Letter}
@@ -19,19 +20,16 @@ use Rattle.sheet.proofs.Numbers.{IfRefused, law-of-refusal, written-lawful}
 use Rattle.sheet.proofs.ReadBack.{reads-are-lawful, write-after-read}
 use Rattle.sheet.proofs.Untouched.{written-leaves}
 use Rattle.sheet.proofs.WrittenRead.{read-after-write}
-use Rattle.stabilizer.proofs.All.{All, all-mapped}
-use Rattle.admission.specs.declared.Admission.{Admission}
-use Rattle.admission.specs.Admission.{code_fault, read_sheet}
+use Rattle.admission.specs.Admission.{code_fault}
 use Rattle.admission.proofs.Admitted.{form-has-nothing-behind, admitted-as, admitted-faultless}
-use Rattle.reporting.specs.Report.{refusal_text, Asked, unmarked, answer_to, correction_value, correction_line}
-use Rattle.reporting.specs.Report.{code_text, report_of_asked, report_of_code, report_of_lines, report_text}
-use Rattle.reporting.specs.Report.{write_report}
+use Rattle.reporting.specs.Report.{refusal_text, correction_value, correction_line, code_text, write_report}
+use Rattle.reporting.specs.Report.{report_of_syndromes, report_of_code, report_of_lines, report_text}
 use Rattle.reporting.specs.Statements.{ReportRefusalsLeave, ReportRefusalNumbers, CorrectionsAreReported}
-use Rattle.reporting.specs.Statements.{MarkedCorrectionsAreReported, asked_text, all_asked_text, all_lines}
-use Rattle.reporting.specs.Statements.{MayBeAsked, BadLine, RefusalsAreReported, AskedAreReported}
-use Rattle.reporting.specs.Statements.{SyndromesAreReported, BadLinesAreReported}
-use Rattle.reporting.proofs.Lists.{lines-of-mapped, all-members}
+use Rattle.reporting.specs.Statements.{syndromes_text, NoSyndrome, RefusalsAreReported, SyndromesAreReported}
+use Rattle.reporting.specs.Statements.{BadLinesAreReported}
+use Rattle.reporting.proofs.Lists.{all-members}
 use Rattle.reporting.proofs.Steps.{before, lines_from, lines_then, lines-return, bad-line}
+use Rattle.reporting.proofs.Syndromes.{HaveRBits}
 
 -- ---- the call
 
@@ -45,13 +43,8 @@ report-refusal-numbers s buffer =
     law-of-refusal (written-lawful (report_text s) buffer IfRefused.unrefused refl)
 
 pub corrections-are-reported : CorrectionsAreReported
-unfolding correction_line correction_value answer_to
+unfolding correction_line correction_value
 corrections-are-reported c E corrected =
-    ap (λ (found : Option (List Letter)). line "c=" (correction_value found)) corrected.found
-
-pub marked-corrections-are-reported : MarkedCorrectionsAreReported
-unfolding correction_line correction_value answer_to
-marked-corrections-are-reported c marks E corrected =
     ap (λ (found : Option (List Letter)). line "c=" (correction_value found)) corrected.found
 
 -- ---- an input whose lines were read
@@ -69,26 +62,29 @@ module _ (input : List ℕ) (q : SheetRead) (rest : List ℕ) (lines : read_line
   unfolding report_text report_of_lines
   report-by-fault fault e = ap report_of_lines lines ∙ ap (report_of_code q rest) e
 
-  module _ (faultless : code_fault q.claim_at own ≡ none) where
-    pub report-by-lines : report_text input ≡ report_of_asked own (lines_from own first rest)
-    unfolding report_of_code
-    report-by-lines = report-by-fault none faultless
+  module _
+      (faultless : code_fault q.claim_at own ≡ none) (syndromes : List (List Bool)) (all : HaveRBits own syndromes)
+    where
+      report-by-lines : report_text input ≡ report_of_syndromes own (lines_from own first rest)
+      unfolding report_of_code
+      report-by-lines = report-by-fault none faultless
 
-    report-answered : (asked : List Asked) → All (MayBeAsked own) asked → rest ≡ all_asked_text asked
-        → report_text input ≡ code_text own ++ flat_map (correction_line own) asked
-    unfolding report_of_asked
-    report-answered asked all e =
-        report-by-lines ∙ ap (report_of_asked own) (ap (lines_from own first) e ∙ lines-return own asked first all)
+      pub report-answered : rest ≡ syndromes_text syndromes
+          → report_text input ≡ code_text own ++ flat_map (correction_line own) syndromes
+      unfolding report_of_syndromes
+      report-answered e =
+          report-by-lines
+          ∙ ap (report_of_syndromes own) (ap (lines_from own first) e ∙ lines-return own syndromes first all)
 
-    report-misread : (asked : List Asked) (behind : List ℕ) (refusal : Refusal) → All (MayBeAsked own) asked
-        → rest ≡ all_asked_text asked ++ behind → BadLine own (first + all_lines asked) behind refusal
-        → report_text input ≡ refusal_text refusal
-    unfolding report_of_asked before
-    report-misread asked behind refusal all e bad =
-        report-by-lines
-        ∙ ap (report_of_asked own)
-        (ap (lines_from own first) e ∙ lines_then own asked first behind all
-        ∙ ap (before asked) (bad-line own (first + all_lines asked) behind refusal bad))
+      pub report-misread : (behind : List ℕ) → rest ≡ syndromes_text syndromes ++ behind → 0 < length behind
+          → NoSyndrome own.r behind
+          → report_text input ≡ refusal_text (Refusal.Syndrome (first + length syndromes))
+      unfolding report_of_syndromes before
+      report-misread behind e some bad =
+          report-by-lines
+          ∙ ap (report_of_syndromes own)
+          (ap (lines_from own first) e ∙ lines_then own syndromes first behind all
+          ∙ ap (before syndromes) (bad-line own (first + length syndromes) behind some bad))
 
 -- ---- a sheet and what stands behind it
 
@@ -100,7 +96,7 @@ lawful-returns q lawful rest few =
     ∙ ap₂ (λ (c : Code) (at : ℕ). got (record { code = c; claim_at = at }) rest) lawful.phases (sym lawful.claim)
 
 -- The lines of a sheet are read alike with anything behind them.
-lines-before : (s rest : List ℕ) (q : SheetRead) → read_lines s ≡ got q [] → length (s ++ rest) ≤ longest_input
+pub lines-before : (s rest : List ℕ) (q : SheetRead) → read_lines s ≡ got q [] → length (s ++ rest) ≤ longest_input
     → read_lines (s ++ rest) ≡ got q rest
 lines-before s rest q lines few =
     let text : sheet_text q.code ≡ s = rw append-nil at (write-after-read s q [] lines) in
@@ -112,28 +108,16 @@ unfolding report_of_code
 refusals-are-reported s rest q refusal form fault few =
     report-by-fault _ q rest (lines-before s rest q (form-has-nothing-behind s q [] form) few) _ fault
 
--- Under an admitted sheet, where something is asked for each element of a list.
-module _ (s : List ℕ) (h : (read_sheet s).answer ≡ Admission.Admitted) {A : Type 0} (ask : A → Asked) (xs : List A) where
-  pub each-is-reported : All (λ x. MayBeAsked (read_sheet s).code (ask x)) xs
-      → length (s ++ flat_map (λ x. asked_text (ask x)) xs) ≤ longest_input
-      → report_text (s ++ flat_map (λ x. asked_text (ask x)) xs)
-      ≡ code_text (read_sheet s).code ++ flat_map (λ x. correction_line (read_sheet s).code (ask x)) xs
-  each-is-reported all few =
-      let a = admitted-as s h in
-      let behind = flat_map (λ x. asked_text (ask x)) xs in
-      report-answered (s ++ behind) _ behind (lines-before s behind _ a.lines few) a.faultless (map ask xs)
-      ((all-mapped _ ask xs).1 all) (sym (lines-of-mapped asked_text ask xs))
-      ∙ ap (λ (t : List ℕ). code_text (read_sheet s).code ++ t) (lines-of-mapped (correction_line _) ask xs)
-
-pub asked-are-reported : AskedAreReported
-asked-are-reported s asked h may = each-is-reported s h (λ one. one) asked (all-members _ asked may)
-
 pub syndromes-are-reported : SyndromesAreReported
-syndromes-are-reported s syndromes h counts = each-is-reported s h unmarked syndromes (all-members _ syndromes counts)
+syndromes-are-reported s syndromes h counts few =
+    let a = admitted-as s h in
+    let behind = syndromes_text syndromes in
+    report-answered (s ++ behind) _ behind (lines-before s behind _ a.lines few) a.faultless syndromes
+    (all-members _ syndromes counts) refl
 
 pub bad-lines-are-reported : BadLinesAreReported
-bad-lines-are-reported s q asked rest refusal form h may bad few =
-    let behind = all_asked_text asked ++ rest in
+bad-lines-are-reported s q syndromes rest form h counts bad some few =
+    let behind = syndromes_text syndromes ++ rest in
     let lines = lines-before s behind q (form-has-nothing-behind s q [] form) few in
-    report-misread (s ++ behind) q behind lines (admitted-faultless s q form h) asked rest refusal
-    (all-members _ asked may) refl bad
+    report-misread (s ++ behind) q behind lines (admitted-faultless s q form h) syndromes
+    (all-members _ syndromes counts) rest refl some bad

@@ -1,70 +1,90 @@
--- The lines behind w step by step: what is asked first and then the others, what is asked and any bytes behind it, the
--- first bad line. That the bound on the steps does not matter, where it is large enough, makes each a step. At the end
--- stands what is known of all lines: they are those of what was read, or a bad line stands behind such.
+-- The `s=` lines one by one: a line and then the others, lines of syndromes and what stands behind them, the first line
+-- that is none. That the bound on the lines does not matter, where it is large enough, makes each a step.
+use mathlib.Core.Bool.{Bool}
 use mathlib.Core.List.{List, [], ◌∷◌, ◌++◌, flat_map, append_assoc, append-nil}
-use mathlib.Core.Path.{◌≡◌, refl, ap, sym, subst, ◌∙◌}
+use mathlib.Core.Path.{◌≡◌, refl, ap, ap₂, sym, ◌∙◌}
 use Prim.Native.Nat.{ℕ, zero, suc, ◌+◌, ◌≤◌, ◌<◌}
 use native.Mathlib.Omega.{arith}
-use lib.ListN.{length}
+use lib.ListN.{length, take, drop, length-append}
+use lib.Seq.{drop-append_seam, take-append_seam}
+use Rattle.letters.specs.Lists.{bytes}
 use Rattle.code_record.specs.declared.Code.{Code}
 use Rattle.refusals.specs.declared.Refusal.{Refusal}
 use Rattle.sheet.specs.Reader.{Parsed, got, stop, Reader, continue, done}
-use Rattle.sheet.proofs.Outcome.{Outcome, gets, stops, what_was-got, continue-outcome}
-use Rattle.stabilizer.proofs.All.{All}
-use Rattle.reporting.specs.Report.{Asked, line_count, asked_lines, all_asked}
-use Rattle.reporting.specs.Statements.{asked_text, all_asked_text, all_lines, MayBeAsked, BadLine}
-use Rattle.reporting.proofs.Syndromes.{lines-asked, shorter, asked-read, bad-line-stops, bad-line-some}
-use Rattle.reporting.proofs.Syndromes.{TookAsked, Bad, asked-outcome}
+use Rattle.sheet.specs.Text.{line_feed, line}
+use Rattle.sheet.proofs.Line.{line-outcome}
+use Rattle.sheet.proofs.Outcome.{Outcome, gets, stops, what_was-got, Took}
+use Rattle.decoder.specs.Syndrome.{syndrome_text, read_syndrome}
+use Rattle.decoder.proofs.Bits.{syndrome-written}
+use Rattle.reporting.specs.Report.{syndrome_line, syndrome_lines}
+use Rattle.reporting.specs.Statements.{syndrome_line_text, syndromes_text, NoSyndrome}
+use Rattle.reporting.proofs.Syndromes.{HaveRBits, line_read, one_line}
+use Rattle.reporting.proofs.Syndromes.{length-syndrome_text, length-syndrome-line}
 
--- What was read, before what was read of the lines behind.
-unfoldable pub before : List Asked → Parsed (List Asked) → Parsed (List Asked)
+-- Syndromes that were read, before those of the lines behind.
+unfoldable pub before : List (List Bool) → Parsed (List (List Bool)) → Parsed (List (List Bool))
 before first (got later end) = got (first ++ later) end
 before first (stop refusal) = stop refusal
 
-before-none : (p : Parsed (List Asked)) → before [] p ≡ p
+before-none : (p : Parsed (List (List Bool))) → before [] p ≡ p
 unfolding before
 before-none (got later end) = refl
 before-none (stop refusal) = refl
 
-before-one : (one : Asked) (more : List Asked) (p : Parsed (List Asked))
-    → before (one ∷ []) (before more p) ≡ before (one ∷ more) p
+before-one : (bits : List Bool) (more : List (List Bool)) (p : Parsed (List (List Bool)))
+    → before (bits ∷ []) (before more p) ≡ before (bits ∷ more) p
 unfolding before
-before-one one more (got later end) = refl
-before-one one more (stop refusal) = refl
+before-one bits more (got later end) = refl
+before-one bits more (stop refusal) = refl
 
--- The reader of the first and then of the others.
-then-others : Asked → Parsed (List Asked) → Parsed (List Asked)
-then-others one p = continue p λ later. done (one ∷ later)
+-- The reader of a line and then of the others.
+then-others : List Bool → Parsed (List (List Bool)) → Parsed (List (List Bool))
+then-others bits p = continue p λ later. done (bits ∷ later)
 
-others-before : (one : Asked) (p : Parsed (List Asked)) → then-others one p ≡ before (one ∷ []) p
+others-before : (bits : List Bool) (p : Parsed (List (List Bool))) → then-others bits p ≡ before (bits ∷ []) p
 unfolding then-others before continue done
-others-before one (got later end) = refl
-others-before one (stop refusal) = refl
-
--- What is known of a refusal, in other words.
-stop-as : {A : Type 0} {Got : A → List ℕ → Type 0} {Stop Stop' : Refusal → Type 0} {p : Parsed A}
-    → ((refusal : Refusal) → Stop refusal → Stop' refusal) → Outcome Got Stop p → Outcome Got Stop' p
-stop-as f (gets h) = gets h
-stop-as f (stops {refusal} h) = stops (f refusal h)
+others-before bits (got later end) = refl
+others-before bits (stop refusal) = refl
 
 module _ (c : Code) where
-  -- ---- the bound on the steps
+  -- What a line was read from, and 16 where it was not read.
+  pub syndrome-line-outcome : (at : ℕ) (s : List ℕ)
+      → Outcome (Took syndrome_line_text (λ bits. length bits ≡ c.r) s) (λ refusal. refusal ≡ Refusal.Syndrome at)
+      (syndrome_line c at s)
+  unfolding syndrome_line
+  syndrome-line-outcome at s =
+      line-outcome "s=" c.r (read_syndrome c.r) (syndrome-written c.r) (Refusal.Syndrome at) s refl
 
-  same-others : (next next' : ℕ → Reader (List Asked)) (at : ℕ) (s : List ℕ) {p : Parsed Asked}
-      → ((at' : ℕ) (s' : List ℕ) → length s' < length s → next at' s' ≡ next' at' s')
-      → Outcome (TookAsked c s) (Bad c at s) p
-      → continue p (λ one s'. then-others one (next (at + line_count one) s'))
-      ≡ continue p (λ one s'. then-others one (next' (at + line_count one) s'))
+  -- What stands behind a line that was read, and the characters of its bits.
+  pub line-behind : (at : ℕ) (s : List ℕ) (bits : List Bool) (rest : List ℕ) → syndrome_line c at s ≡ got bits rest
+      → (rest ≡ drop (c.r + 3) s) × (syndrome_text bits ≡ take c.r (drop 2 s))
+  unfolding line bytes
+  line-behind at s bits rest e =
+      let took = what_was-got (syndrome-line-outcome at s) e in
+      let text = syndrome_text bits in
+      let count = length-syndrome-line bits ∙ ap (λ m. m + 3) took.lawful in (
+        sym (drop-append_seam (syndrome_line_text bits) rest) ∙ ap₂ drop count (sym took.bytes_read),
+        sym (take-append_seam text (line_feed ∷ rest))
+            ∙ ap₂ take (length-syndrome_text bits ∙ took.lawful)
+            (sym (append_assoc text (line_feed ∷ []) rest) ∙ ap (drop 2) (sym took.bytes_read)),
+      )
+
+  -- ---- the bound on the lines
+
+  same-others : (next next' : Reader (List (List Bool))) (s : List ℕ) {p : Parsed (List Bool)} {at : ℕ}
+      → ((s' : List ℕ) → length s' < length s → next s' ≡ next' s')
+      → Outcome (Took syndrome_line_text (λ bits. length bits ≡ c.r) s) (λ refusal. refusal ≡ Refusal.Syndrome at) p
+      → continue p (λ bits s'. then-others bits (next s')) ≡ continue p (λ bits s'. then-others bits (next' s'))
   unfolding continue
-  same-others next next' at s same (gets {a = one} {rest} h) =
-      ap (then-others one)
-      (same (at + line_count one) rest (omega (arith, lines-asked one, shorter one s rest h.bytes_read)))
-  same-others next next' at s same (stops h) = refl
+  same-others next next' s same (gets {a = bits} {rest} h) =
+      let counts = ap length h.bytes_read ∙ length-append (syndrome_line_text bits) rest in
+      ap (then-others bits) (same rest (omega (arith, length-syndrome-line bits)))
+  same-others next next' s same (stops h) = refl
 
-  -- As many steps as bytes are enough, and more are as good.
+  -- As many lines as bytes are enough, and more are as good.
   lines-bound : (most more at : ℕ) (s : List ℕ) → length s ≤ most → length s ≤ more
-      → all_asked most c at s ≡ all_asked more c at s
-  unfolding all_asked then-others
+      → syndrome_lines most c at s ≡ syndrome_lines more c at s
+  unfolding syndrome_lines then-others
   lines-bound zero zero at [] few fewer = refl
   lines-bound zero (suc more) at [] few fewer = refl
   lines-bound (suc most) zero at [] few fewer = refl
@@ -73,124 +93,80 @@ module _ (c : Code) where
   lines-bound zero (suc more) at (b ∷ s) few fewer = absurd (omega arith)
   lines-bound (suc most) zero at (b ∷ s) few fewer = absurd (omega arith)
   lines-bound (suc most) (suc more) at (b ∷ s) few fewer =
-      same-others (all_asked most c) (all_asked more c) at (b ∷ s)
-      (λ at' s' small. lines-bound most more at' s' (omega arith) (omega arith)) (asked-outcome c at (b ∷ s))
+      same-others (syndrome_lines most c (at + 1)) (syndrome_lines more c (at + 1)) (b ∷ s)
+      (λ s' small. lines-bound most more (at + 1) s' (omega arith) (omega arith)) (syndrome-line-outcome at (b ∷ s))
 
   -- ---- steps
 
   -- The lines from `at` on, to the end of the bytes.
-  abbrev pub lines_from : ℕ → Reader (List Asked)
-  lines_from at s = all_asked (length s) c at s
+  abbrev pub lines_from : ℕ → Reader (List (List Bool))
+  lines_from at s = syndrome_lines (length s) c at s
 
   pub lines-ended : (at : ℕ) → lines_from at [] ≡ got [] []
-  unfolding all_asked
+  unfolding syndrome_lines
   lines-ended at = refl
 
-  -- What is read first stands before the others; where it is not read the reading ends.
-  pub lines-got : (at : ℕ) (s : List ℕ) (one : Asked) (rest : List ℕ) → asked_lines c at s ≡ got one rest
-      → lines_from at s ≡ before (one ∷ []) (lines_from (at + line_count one) rest)
-  unfolding all_asked continue then-others
-  lines-got at s one rest e = go s (what_was-got (asked-outcome c at s) e).bytes_read e
+  -- A line that is read stands before the others; one that is not ends the reading.
+  pub lines-got : (at : ℕ) (s : List ℕ) (bits : List Bool) (rest : List ℕ) → syndrome_line c at s ≡ got bits rest
+      → lines_from at s ≡ before (bits ∷ []) (lines_from (at + 1) rest)
+  unfolding continue then-others
+  lines-got at s bits rest e = go s (ap length took ∙ length-append (syndrome_line_text bits) rest) e
     where
-      go : (s : List ℕ) → s ≡ asked_text one ++ rest → asked_lines c at s ≡ got one rest
-          → lines_from at s ≡ before (one ∷ []) (lines_from (at + line_count one) rest)
-      go [] took e = absurd (omega (arith, lines-asked one, shorter one [] rest took))
-      go (b ∷ s) took e =
-          ap (λ p. continue p (λ one s'. then-others one (all_asked (length s) c (at + line_count one) s'))) e
-          ∙ ap (then-others one)
-          (lines-bound (length s) (length rest) (at + line_count one) rest
-          (omega (arith, lines-asked one, shorter one (b ∷ s) rest took)) (omega arith))
-          ∙ others-before one (lines_from (at + line_count one) rest)
+      took : s ≡ syndrome_line_text bits ++ rest
+      took = (what_was-got (syndrome-line-outcome at s) e).bytes_read
 
-  pub lines-stopped : (at : ℕ) (s : List ℕ) (refusal : Refusal) → 0 < length s → asked_lines c at s ≡ stop refusal
+      go : (s : List ℕ) → length s ≡ length (syndrome_line_text bits) + length rest → syndrome_line c at s ≡ got bits rest
+          → lines_from at s ≡ before (bits ∷ []) (lines_from (at + 1) rest)
+      go [] count e = absurd (omega (arith, length-syndrome-line bits))
+      go (b ∷ s) count e =
+          one_line c (length s) at (b ∷ s) (omega arith)
+          ∙ ap (λ p. continue p (λ bits s'. then-others bits (syndrome_lines (length s) c (at + 1) s'))) e
+          ∙ ap (then-others bits)
+          (lines-bound (length s) (length rest) (at + 1) rest (omega (arith, length-syndrome-line bits)) (omega arith))
+          ∙ others-before bits (lines_from (at + 1) rest)
+
+  pub lines-stopped : (at : ℕ) (s : List ℕ) (refusal : Refusal) → 0 < length s → syndrome_line c at s ≡ stop refusal
       → lines_from at s ≡ stop refusal
-  unfolding all_asked continue then-others
+  unfolding continue then-others
   lines-stopped at [] refusal some e = absurd (omega arith)
   lines-stopped at (b ∷ s) refusal some e =
-      ap (λ p. continue p (λ one s'. then-others one (all_asked (length s) c (at + line_count one) s'))) e
+      one_line c (length s) at (b ∷ s) some
+      ∙ ap (λ p. continue p (λ bits s'. then-others bits (syndrome_lines (length s) c (at + 1) s'))) e
 
-  -- ---- what is asked, and what stands behind it
+  -- ---- lines of syndromes, and what stands behind them
 
-  pub lines_then : (asked : List Asked) (at : ℕ) (rest : List ℕ) → All (MayBeAsked c) asked
-      → lines_from at (all_asked_text asked ++ rest) ≡ before asked (lines_from (at + all_lines asked) rest)
+  pub lines_then : (syndromes : List (List Bool)) (at : ℕ) (rest : List ℕ) → HaveRBits c syndromes
+      → lines_from at (syndromes_text syndromes ++ rest)
+      ≡ before syndromes (lines_from (at + length syndromes) rest)
   unfolding flat_map
   lines_then [] at rest all =
       let here : at ≡ at + 0 = omega arith in
       sym (before-none (lines_from at rest)) ∙ ap (λ (at : ℕ). before [] (lines_from at rest)) here
-  lines_then (one ∷ more) at rest all =
-      let behind = all_asked_text more ++ rest in
-      let next = at + line_count one in
-      let places : next + all_lines more ≡ at + (line_count one + all_lines more) = omega arith in
-      ap (lines_from at) (append_assoc (asked_text one) (all_asked_text more) rest)
-      ∙ lines-got at (asked_text one ++ behind) one behind (asked-read c at one behind all.0)
-      ∙ ap (before (one ∷ [])) (lines_then more next rest all.1)
-      ∙ before-one one more (lines_from (next + all_lines more) rest)
-      ∙ ap (λ (at : ℕ). before (one ∷ more) (lines_from at rest)) places
+  lines_then (bits ∷ more) at rest all =
+      let behind = syndromes_text more ++ rest in
+      let places : at + 1 + length more ≡ at + suc (length more) = omega arith in
+      ap (lines_from at) (append_assoc (syndrome_line_text bits) (syndromes_text more) rest)
+      ∙ lines-got at (syndrome_line_text bits ++ behind) bits behind (line_read c at bits behind all.0)
+      ∙ ap (before (bits ∷ [])) (lines_then more (at + 1) rest all.1)
+      ∙ before-one bits more (lines_from (at + 1 + length more) rest)
+      ∙ ap (λ (at : ℕ). before (bits ∷ more) (lines_from at rest)) places
 
-  pub lines-return : (asked : List Asked) (at : ℕ) → All (MayBeAsked c) asked
-      → lines_from at (all_asked_text asked) ≡ got asked []
+  pub lines-return : (syndromes : List (List Bool)) (at : ℕ) → HaveRBits c syndromes
+      → lines_from at (syndromes_text syndromes) ≡ got syndromes []
   unfolding before
-  lines-return asked at all =
-      ap (lines_from at) (sym (append-nil (all_asked_text asked)))
-      ∙ lines_then asked at [] all
-      ∙ ap (before asked) (lines-ended (at + all_lines asked))
-      ∙ ap (λ (l : List Asked). got l []) (append-nil asked)
+  lines-return syndromes at all =
+      ap (lines_from at) (sym (append-nil (syndromes_text syndromes)))
+      ∙ lines_then syndromes at [] all
+      ∙ ap (before syndromes) (lines-ended (at + length syndromes))
+      ∙ ap (λ (l : List (List Bool)). got l []) (append-nil syndromes)
 
-  pub bad-line : (at : ℕ) (s : List ℕ) (refusal : Refusal) → BadLine c at s refusal → lines_from at s ≡ stop refusal
-  bad-line at s refusal bad =
-      lines-stopped at s refusal (bad-line-some c at s refusal bad) (bad-line-stops c at s refusal bad)
-
-  -- ---- what all lines are
-
-  -- A bad line, and what is asked before it.
-  pub record Misread (at : ℕ) (s : List ℕ) (refusal : Refusal) : Type 0 where
-    pub asked : List Asked
-    pub rest : List ℕ
-    pub lawful : All (MayBeAsked c) asked
-    pub bytes-are : s ≡ all_asked_text asked ++ rest
-    pub bad : BadLine c (at + all_lines asked) rest refusal
-
-  misread-here : (at : ℕ) (s : List ℕ) (refusal : Refusal) → BadLine c at s refusal → Misread at s refusal
-  unfolding flat_map
-  misread-here at s refusal bad =
-      let here : at ≡ at + 0 = omega arith in
-      record {
-        asked = [];
-        rest = s;
-        lawful = tt;
-        bytes-are = refl;
-        bad = subst (λ (at : ℕ). BadLine c at s refusal) here bad;
-      }
-
-  misread-later : (at : ℕ) (s : List ℕ) (one : Asked) (s' : List ℕ) (refusal : Refusal) → TookAsked c s one s'
-      → Misread (at + line_count one) s' refusal → Misread at s refusal
-  unfolding flat_map
-  misread-later at s one s' refusal took later =
-      let more = later.asked in
-      let places : at + line_count one + all_lines more ≡ at + (line_count one + all_lines more) = omega arith in
-      record {
-        asked = one ∷ more;
-        rest = later.rest;
-        lawful = (took.lawful, later.lawful);
-        bytes-are = took.bytes_read ∙ ap (λ (t : List ℕ). asked_text one ++ t) later.bytes-are
-            ∙ sym (append_assoc (asked_text one) (all_asked_text more) later.rest);
-        bad = subst (λ (at : ℕ). BadLine c at later.rest refusal) places later.bad;
-      }
-
-  pub all-asked-outcome : (most at : ℕ) (s : List ℕ) → length s ≤ most
-      → Outcome (λ asked end. All (MayBeAsked c) asked × (s ≡ all_asked_text asked)) (Misread at s)
-      (all_asked most c at s)
-  unfolding flat_map all_asked done
-  all-asked-outcome zero at [] few = gets (tt, refl)
-  all-asked-outcome zero at (b ∷ s) few = absurd (omega arith)
-  all-asked-outcome (suc most) at [] few = gets (tt, refl)
-  all-asked-outcome (suc most) at (b ∷ s) few =
-      continue-outcome
-      (stop-as (λ refusal bad. misread-here at (b ∷ s) refusal (bad (omega arith))) (asked-outcome c at (b ∷ s)))
-      λ one s' took.
-      let small = shorter one (b ∷ s) s' took.bytes_read in
-      continue-outcome
-      (stop-as (λ refusal. misread-later at (b ∷ s) one s' refusal took)
-      (all-asked-outcome most (at + line_count one) s' (omega (arith, lines-asked one))))
-      λ more end h.
-      gets ((took.lawful, h.0), took.bytes_read ∙ ap (λ (t : List ℕ). asked_text one ++ t) h.1)
+  -- Bytes that do not begin with the line of a syndrome are refused there.
+  pub bad-line : (at : ℕ) (s : List ℕ) → 0 < length s → NoSyndrome c.r s
+      → lines_from at s ≡ stop (Refusal.Syndrome at)
+  bad-line at s some bad = lines-stopped at s (Refusal.Syndrome at) some (go (syndrome-line-outcome at s))
+    where
+      go : {p : Parsed (List Bool)}
+          → Outcome (Took syndrome_line_text (λ bits. length bits ≡ c.r) s) (λ refusal. refusal ≡ Refusal.Syndrome at) p
+          → p ≡ stop (Refusal.Syndrome at)
+      go (gets {a = bits} {rest} h) = absurd (bad bits rest h.lawful h.bytes_read)
+      go (stops h) = ap stop h

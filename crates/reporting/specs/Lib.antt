@@ -1,4 +1,3 @@
 pub mod Report
 pub mod Definitions
 pub mod Statements
-pub mod WithoutMarks

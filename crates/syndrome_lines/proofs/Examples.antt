@@ -1,5 +1,5 @@
--- Lines of syndromes, computed.
-use mathlib.Core.List.{◌++◌}
+-- Lines of syndromes, computed. The first line off its form is named by the count of those before it.
+use mathlib.Core.List.{[], ◌++◌}
 use mathlib.Core.Path.{◌≡◌, refl}
 use Prim.Native.Char.{code}
 use lib.ListN.{replicate}
@@ -7,10 +7,12 @@ use Rattle.letters.specs.Lists.{bytes}
 use Rattle.decoder.specs.Definitions.{definitions}
 use Rattle.syndrome_reader.specs.declared.SyndromeRead.{SyndromeRead}
 use Rattle.syndrome_reader.specs.Mask.{mask_read, read_mask}
-use Rattle.syndrome_lines.specs.SyndromeLines.{bits_line, mask_line}
+use Rattle.syndrome_lines.specs.declared.SyndromeLines.{SyndromeLines}
+use Rattle.syndrome_lines.specs.SyndromeLines.{mask_line, syndrome_length, oneMore, lineThen}
+use Rattle.syndrome_lines.specs.SyndromeLines.{checkedLines, checkLines}
 
 unfoldable all : Unit {0}
-unfolding bits_line mask_line read_mask mask_read definitions
+unfolding checkLines checkedLines lineThen oneMore syndrome_length mask_line read_mask mask_read definitions
 all = tt
 
 -- ---- one line
@@ -39,3 +41,26 @@ line-off-form = refl
 line-of_33 : mask_line 33 (bytes "s=" ++ replicate 33 (code "0") ++ bytes "\n") ≡ SyndromeRead.Malformed
 unfolding all
 line-of_33 = refl
+
+-- ---- all lines
+
+none_read : checkLines 4 [] ≡ SyndromeLines.Read
+unfolding all
+none_read = refl
+
+two-read : checkLines 4 (bytes "s=0011\ns=0100\n") ≡ SyndromeLines.Read
+unfolding all
+two-read = refl
+
+-- the fault of the second line is told, and not that of the third
+second-off-form : checkLines 4 (bytes "s=0011\ns=0120\nw=0100\ns=0100\n") ≡ SyndromeLines.OffForm 1
+unfolding all
+second-off-form = refl
+
+empty-line : checkLines 4 (bytes "s=0011\ns=0100\n\n") ≡ SyndromeLines.OffForm 2
+unfolding all
+empty-line = refl
+
+last-without-feed : checkLines 4 (bytes "s=0011\ns=0100") ≡ SyndromeLines.OffForm 1
+unfolding all
+last-without-feed = refl

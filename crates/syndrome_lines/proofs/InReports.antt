@@ -1,89 +1,170 @@
--- A line of bits behind any key is read as the report's definitions read it, from its parts.
-use mathlib.Core.Bool.{Bool, true, false, cond, ◌&&◌}
-use mathlib.Core.List.{List}
-use mathlib.Core.Path.{◌≡◌, refl, ap, ap₂, ◌∙◌}
-use Prim.Native.Nat.{ℕ, ◌+◌, ◌≤◌}
+-- The readers against the report's definitions: one line, and then by the steps of a report's lines.
+use mathlib.Core.Bool.{Bool, true, false, cond}
+use mathlib.Core.List.{List, [], ◌∷◌}
+use mathlib.Core.Option.{none, some, none-ne-some, some-ne-none, some-injective}
+use mathlib.Core.Path.{◌≡◌, refl, ap, sym, ◌∙◌}
+use Prim.Native.Nat.{ℕ, zero, suc, ◌+◌, ◌≤◌}
 use native.Mathlib.Omega.{arith}
-use lib.Dec.{eqb}
-use lib.ListN.{length, take, drop, get_or}
-use lib.Seq.{get_or-drop, drop-drop}
+use lib.ListN.{length, take, drop, length-drop}
+use lib.Seq.{drop-drop}
+use Rattle.letters.specs.Lists.{bytes}
 use Rattle.pauli.specs.Syndrome.{mask_of_bits}
 use Rattle.refusals.specs.declared.Refusal.{Refusal}
+use Rattle.code_record.specs.declared.Code.{Code}
 use Rattle.code_record.specs.Record.{row_room}
-use Rattle.sheet.specs.Reader.{got, stop, begins, is_line, line_of, got_or}
-use Rattle.sheet.specs.Text.{line_feed}
-use Rattle.decoder.specs.Syndrome.{read_syndrome}
+use Rattle.sheet.specs.Reader.{got, stop, got_or, is_line, line_of}
 use Rattle.syndrome_reader.specs.declared.SyndromeRead.{SyndromeRead}
 use Rattle.syndrome_reader.specs.Mask.{read_mask}
 use Rattle.syndrome_reader.proofs.ReadMask.{mask-is-of-bits}
-use Rattle.syndrome_lines.specs.Statements.{BitsLinesAreRead}
-use Rattle.syndrome_lines.specs.SyndromeLines.{bits_line}
-use Rattle.syndrome_lines.proofs.Lines.{no-mask}
+use Rattle.reporting.specs.Report.{syndrome_line}
+use Rattle.reporting.proofs.Steps.{before, lines_from, lines-ended, lines-got, lines-stopped}
+use Rattle.syndrome_lines.specs.declared.SyndromeLines.{SyndromeLines}
+use Rattle.syndrome_lines.specs.SyndromeLines.{mask_line, syndrome_length, oneMore, checkLines}
+use Rattle.syndrome_lines.specs.SyndromeLines.{lineFault, lines_fault}
+use Rattle.syndrome_lines.specs.Statements.{SyndromeLinesAreRead}
+use Rattle.syndrome_lines.proofs.Lines.{no-mask, check-ended, check-off, check-more}
 
-module _ (key : List ℕ) (two : length key ≡ 2) (m : ℕ) (refusal : Refusal) (s : List ℕ) where
-  -- What is tested of the line feed, in the reader's words and in ours.
-  abbrev ended : Bool
-  ended = eqb (get_or s (m + 2) 0) line_feed
+-- ---- what is told of the lines behind one
 
-  line-told : (b : Bool) → begins key s ≡ b → is_line key m s ≡ (b && ended)
-  unfolding is_line
-  line-told b e =
-      let place : 2 + m ≡ m + 2 = omega arith in
-      ap₂ (λ t (x : ℕ). t && eqb x line_feed) e
-      (ap (λ (k : ℕ). get_or (drop k s) m 0) two ∙ get_or-drop 2 s m 0 ∙ ap (λ (i : ℕ). get_or s i 0) place)
+read_behind : (lines : SyndromeLines) → oneMore lines ≡ SyndromeLines.Read → lines ≡ SyndromeLines.Read
+unfolding oneMore
+read_behind SyndromeLines.Read e = refl
+read_behind (SyndromeLines.OffForm m) e = cc
 
-  -- A line, by whether it is one, and what its characters are read as.
-  by_parts : (b : Bool) → is_line key m s ≡ b
-      → line_of key m (read_syndrome m) refusal s
-      ≡ cond b (got_or refusal (read_syndrome m (take m (drop 2 s))) (drop (m + 3) s)) (stop refusal)
-  unfolding line_of
-  by_parts b e =
-      let places : 2 + (m + 1) ≡ m + 3 = omega arith in
-      ap₂ (λ t (k : ℕ). cond t (got_or refusal (read_syndrome m (take m (drop k s))) (drop (m + 1) (drop k s)))
-      (stop refusal)) e two
-      ∙ ap (λ rest. cond b (got_or refusal (read_syndrome m (take m (drop 2 s))) rest) (stop refusal))
-      (drop-drop (m + 1) 2 s ∙ ap (λ (i : ℕ). drop i s) places)
+off-behind : (lines : SyndromeLines) (m : ℕ) → oneMore lines ≡ SyndromeLines.OffForm m
+    → (k : ℕ) × (lines ≡ SyndromeLines.OffForm k) × (k + 1 ≡ m)
+unfolding oneMore
+off-behind SyndromeLines.Read m e = let z : ◌≡◌ {A = ℕ} 0 1 = cc in absurd (omega arith)
+off-behind (SyndromeLines.OffForm k) m e = (k, refl, cc)
 
-  Read : ℕ → Type 0
-  Read x =
-      (bits : List Bool) × (line_of key m (read_syndrome m) refusal s ≡ got bits (drop (m + 3) s))
-      × (x ≡ mask_of_bits bits)
+same_count : {m k : ℕ} → SyndromeLines.OffForm m ≡ SyndromeLines.OffForm k → m ≡ k
+same_count e = cc
 
-  read : begins key s ≡ true → (x : ℕ) → bits_line m s ≡ SyndromeRead.Mask x → Read x
-  unfolding bits_line got_or Read
-  read begun x e = by-feed ended refl e
+not-both : {m : ℕ} → SyndromeLines.OffForm m ≡ SyndromeLines.Read → ⊥
+not-both e = let z : ◌≡◌ {A = ℕ} 0 1 = cc in absurd (omega arith)
+
+module _ (c : Code) where
+  -- ---- one line
+
+  module _ (at : ℕ) (s : List ℕ) where
+    abbrev characters : List ℕ
+    characters = take c.r (drop 2 s)
+
+    line : (m : ℕ) → mask_line c.r s ≡ SyndromeRead.Mask m
+        → (bits : List Bool) × (syndrome_line c at s ≡ got bits (drop (syndrome_length c.r) s)) × (m ≡ mask_of_bits bits)
+    unfolding mask_line syndrome_length syndrome_line line_of got_or bytes
+    line m e = by-line (is_line (bytes "s=") c.r s) refl e
+      where
+        by-line : (b : Bool) → is_line (bytes "s=") c.r s ≡ b
+            → cond b (read_mask c.r characters) SyndromeRead.Malformed ≡ SyndromeRead.Mask m
+            → (bits : List Bool) × (syndrome_line c at s ≡ got bits (drop (c.r + 3) s)) × (m ≡ mask_of_bits bits)
+        by-line true f e =
+            let told = mask-is-of-bits.told c.r characters m e in
+            let places : 2 + (c.r + 1) ≡ c.r + 3 = omega arith in (
+              told.0,
+              rw (f, told.1)
+                  (ap (got told.0) (drop-drop (c.r + 1) 2 s ∙ ap (λ (i : ℕ). drop i s) places)),
+              told.2,
+            )
+        by-line false f e = absurd (no-mask e)
+
+    malformed : c.r ≤ row_room → mask_line c.r s ≡ SyndromeRead.Malformed
+        → syndrome_line c at s ≡ stop (Refusal.Syndrome at)
+    unfolding mask_line syndrome_line line_of got_or bytes
+    malformed few e = by-line (is_line (bytes "s=") c.r s) refl e
+      where
+        by-line : (b : Bool) → is_line (bytes "s=") c.r s ≡ b
+            → cond b (read_mask c.r characters) SyndromeRead.Malformed ≡ SyndromeRead.Malformed
+            → syndrome_line c at s ≡ stop (Refusal.Syndrome at)
+        by-line true f e = rw (f, mask-is-of-bits.malformed c.r characters e few)
+        by-line false f e = rw f
+
+  -- ---- all lines
+
+  -- The bytes behind the line at their start.
+  abbrev behind : List ℕ → List ℕ
+  behind s = drop (syndrome_length c.r) s
+
+  shorter : (b : ℕ) (s : List ℕ) → length (behind (b ∷ s)) ≤ length s
+  unfolding syndrome_length
+  shorter b s = omega (arith, length-drop (c.r + 3) (b ∷ s))
+
+  abbrev AllRead : ℕ → List ℕ → Type 0
+  AllRead at s = (syndromes : List (List Bool)) × (lines_from c at s ≡ got syndromes [])
+
+  read : (most at : ℕ) (s : List ℕ) → length s ≤ most → checkLines c.r s ≡ SyndromeLines.Read → AllRead at s
+  unfolding before
+  read zero at [] few e = ([], lines-ended c at)
+  read zero at (b ∷ s) few e = absurd (omega arith)
+  read (suc most) at [] few e = ([], lines-ended c at)
+  read (suc most) at (b ∷ s) few e =
+      by-line (mask_line c.r (b ∷ s)) refl (read most (at + 1) (behind (b ∷ s)) (omega (arith, shorter b s)))
     where
-      by-feed : (b : Bool) → ended ≡ b
-          → cond b (read_mask m (take m (drop 2 s))) SyndromeRead.Malformed ≡ SyndromeRead.Mask x → Read x
-      by-feed true f e =
-          let told = mask-is-of-bits.told m (take m (drop 2 s)) x e in (
-            told.0,
-            by_parts true (line-told true begun ∙ f)
-                ∙ ap (λ o. got_or refusal o (drop (m + 3) s)) told.1,
-            told.2,
+      by-line : (x : SyndromeRead) → mask_line c.r (b ∷ s) ≡ x
+          → (checkLines c.r (behind (b ∷ s)) ≡ SyndromeLines.Read → AllRead (at + 1) (behind (b ∷ s)))
+          → AllRead at (b ∷ s)
+      by-line (SyndromeRead.Mask m) f next =
+          let first = line at (b ∷ s) m f in
+          let others = next (read_behind _ (sym (check-more c.r (b ∷ s) f) ∙ e)) in (
+            first.0 ∷ others.0,
+            lines-got c at (b ∷ s) first.0 (behind (b ∷ s)) first.1 ∙ ap (before (first.0 ∷ [])) others.1,
           )
-      by-feed false f e = absurd (no-mask e)
+      by-line SyndromeRead.Malformed f next =
+          absurd (not-both (sym (check-off c.r (b ∷ s) (omega arith) f) ∙ e))
 
-  malformed : begins key s ≡ true → m ≤ row_room → bits_line m s ≡ SyndromeRead.Malformed
-      → line_of key m (read_syndrome m) refusal s ≡ stop refusal
-  unfolding bits_line got_or
-  malformed begun few e = by-feed ended refl e
+  off-form : c.r ≤ row_room → (most at : ℕ) (s : List ℕ) (m : ℕ) → length s ≤ most
+      → checkLines c.r s ≡ SyndromeLines.OffForm m → lines_from c at s ≡ stop (Refusal.Syndrome (at + m))
+  unfolding before
+  off-form room zero at [] m few e = absurd (not-both (sym e ∙ check-ended c.r))
+  off-form room zero at (b ∷ s) m few e = absurd (omega arith)
+  off-form room (suc most) at [] m few e = absurd (not-both (sym e ∙ check-ended c.r))
+  off-form room (suc most) at (b ∷ s) m few e =
+      by-line (mask_line c.r (b ∷ s)) refl
+      (λ m. off-form room most (at + 1) (behind (b ∷ s)) m (omega (arith, shorter b s)))
     where
-      by-feed : (b : Bool) → ended ≡ b
-          → cond b (read_mask m (take m (drop 2 s))) SyndromeRead.Malformed ≡ SyndromeRead.Malformed
-          → line_of key m (read_syndrome m) refusal s ≡ stop refusal
-      by-feed true f e =
-          by_parts true (line-told true begun ∙ f)
-          ∙ ap (λ o. got_or refusal o (drop (m + 3) s)) (mask-is-of-bits.malformed m (take m (drop 2 s)) e few)
-      by-feed false f e = by_parts false (line-told true begun ∙ f)
+      by-line : (x : SyndromeRead) → mask_line c.r (b ∷ s) ≡ x
+          → ((m : ℕ) → checkLines c.r (behind (b ∷ s)) ≡ SyndromeLines.OffForm m
+          → lines_from c (at + 1) (behind (b ∷ s)) ≡ stop (Refusal.Syndrome (at + 1 + m)))
+          → lines_from c at (b ∷ s) ≡ stop (Refusal.Syndrome (at + m))
+      by-line (SyndromeRead.Mask mask) f next =
+          let first = line at (b ∷ s) mask f in
+          let left = off-behind _ m (sym (check-more c.r (b ∷ s) f) ∙ e) in
+          let place : at + 1 + left.0 ≡ at + m = omega (arith, left.2) in
+          lines-got c at (b ∷ s) first.0 (behind (b ∷ s)) first.1
+          ∙ ap (before (first.0 ∷ [])) (next left.0 left.1)
+          ∙ ap (λ (i : ℕ). stop (Refusal.Syndrome i)) place
+      by-line SyndromeRead.Malformed f next =
+          let none = same_count (sym (check-off c.r (b ∷ s) (omega arith) f) ∙ e) in
+          let place : at ≡ at + m = omega (arith, none) in
+          lines-stopped c at (b ∷ s) (Refusal.Syndrome at) (omega arith) (malformed at (b ∷ s) room f)
+          ∙ ap (λ (i : ℕ). stop (Refusal.Syndrome i)) place
 
-  key_is_other : begins key s ≡ false → line_of key m (read_syndrome m) refusal s ≡ stop refusal
-  key_is_other other = by_parts false (line-told false other)
+-- ---- by what the answers refuse
 
-pub bits-lines-are-read : BitsLinesAreRead
-unfolding Read
-bits-lines-are-read key two m refusal s = record {
-  read = read key two m refusal s;
-  malformed = malformed key two m refusal s;
-  other_key = key_is_other key two m refusal s;
+malformed-told : (at : ℕ) (x : SyndromeRead) (refusal : Refusal) → lineFault at x ≡ some refusal
+    → (x ≡ SyndromeRead.Malformed) × (Refusal.Syndrome at ≡ refusal)
+unfolding lineFault
+malformed-told at (SyndromeRead.Mask m) refusal e = absurd (none-ne-some refusal e)
+malformed-told at SyndromeRead.Malformed refusal e = (refl, some-injective _ refusal e)
+
+read_told : (at : ℕ) (lines : SyndromeLines) → lines_fault at lines ≡ none → lines ≡ SyndromeLines.Read
+unfolding lines_fault
+read_told at SyndromeLines.Read e = refl
+read_told at (SyndromeLines.OffForm m) e = absurd (some-ne-none _ e)
+
+off-told : (at : ℕ) (lines : SyndromeLines) (refusal : Refusal) → lines_fault at lines ≡ some refusal
+    → (m : ℕ) × (lines ≡ SyndromeLines.OffForm m) × (Refusal.Syndrome (at + m) ≡ refusal)
+unfolding lines_fault
+off-told at SyndromeLines.Read refusal e = absurd (none-ne-some refusal e)
+off-told at (SyndromeLines.OffForm m) refusal e = (m, refl, some-injective _ refusal e)
+
+pub syndrome-lines-are-read : SyndromeLinesAreRead
+syndrome-lines-are-read = record {
+  line = line;
+  malformed = λ c at s refusal few e.
+      let told = malformed-told at _ refusal e in malformed c at s few told.0 ∙ ap stop told.1;
+  read = λ c at s e. read c (length s) at s (omega arith) (read_told at _ e);
+  off_form = λ c at s refusal few e.
+      let told = off-told at _ refusal e in
+      off-form c few (length s) at s told.0 (omega arith) told.1 ∙ ap stop told.2;
 }

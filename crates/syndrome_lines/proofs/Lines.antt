@@ -1,15 +1,18 @@
--- One line, by its parts: the key, the line feed and the characters between them.
-use mathlib.Core.Bool.{Bool, true, false, cond}
-use mathlib.Core.List.{List}
-use mathlib.Core.Path.{◌≡◌, refl, sym, ◌∙◌}
-use Prim.Native.Nat.{ℕ, ◌+◌, ◌-◌, ◌≤◌, ◌<◌}
+-- One line, by its parts: the key, the line feed and the characters between them. And the lines one by one: a line that
+-- is read stands before what the rest gives.
+use mathlib.Core.Bool.{Bool, true, false, cond, and-false}
+use mathlib.Core.List.{List, [], ◌∷◌}
+use mathlib.Core.Path.{◌≡◌, refl, ap, sym, ◌∙◌}
+use Prim.Native.Nat.{ℕ, zero, suc, ◌+◌, ◌-◌, ◌≤◌, ◌<◌}
 use native.Mathlib.Omega.{arith}
 use borrow.Author.Tests.{ltb-true, ltb-false}
 use lib.Dec.{eqb, ltb}
-use lib.ListN.{length, take, drop, get_or}
+use lib.ListN.{length, take, drop, get_or, length-drop, drop_of_length-le}
+use lib.Seq.{get_or-drop, drop-drop}
 use Rattle.letters.specs.Lists.{bytes}
 use Rattle.code_record.specs.Record.{row_room}
-use Rattle.sheet.specs.Reader.{begins}
+use Rattle.code_record.proofs.Limits.{both}
+use Rattle.sheet.specs.Reader.{begins, is_line}
 use Rattle.sheet.specs.Text.{line_feed}
 use Rattle.line_kinds.specs.declared.LineKind.{LineKind}
 use Rattle.line_kinds.specs.LineKinds.{line_kind}
@@ -19,7 +22,9 @@ use Rattle.decoder.specs.Syndrome.{read_syndrome}
 use Rattle.syndrome_reader.specs.declared.SyndromeRead.{SyndromeRead}
 use Rattle.syndrome_reader.specs.Mask.{read_mask}
 use Rattle.syndrome_reader.proofs.ReadMask.{many-generators}
-use Rattle.syndrome_lines.specs.SyndromeLines.{bits_line, mask_line, syndrome_length}
+use Rattle.syndrome_lines.specs.declared.SyndromeLines.{SyndromeLines}
+use Rattle.syndrome_lines.specs.SyndromeLines.{mask_line, syndrome_length, oneMore, lineThen}
+use Rattle.syndrome_lines.specs.SyndromeLines.{checkedLines, checkLines}
 
 -- A mask is not malformed.
 pub no-mask : {m : ℕ} → SyndromeRead.Malformed ≡ SyndromeRead.Mask m → ⊥
@@ -27,65 +32,189 @@ no-mask e = let z : ◌≡◌ {A = ℕ} 0 1 = cc in absurd (omega arith)
 
 -- ---- one line
 
-module _ (m : ℕ) (s : List ℕ) where
-  pub bits-many : row_room < m → bits_line m s ≡ SyndromeRead.Malformed
-  unfolding bits_line
-  bits-many h = by-feed (eqb (get_or s (m + 2) 0) line_feed)
-    where
-      by-feed : (b : Bool) → cond b (read_mask m (take m (drop 2 s))) SyndromeRead.Malformed ≡ SyndromeRead.Malformed
-      by-feed true = many-generators m (take m (drop 2 s)) h
-      by-feed false = refl
-
-  pub bits-no-feed : eqb (get_or s (m + 2) 0) line_feed ≡ false → bits_line m s ≡ SyndromeRead.Malformed
-  unfolding bits_line
-  bits-no-feed e = rw e
-
-  pub bits-read : eqb (get_or s (m + 2) 0) line_feed ≡ true → bits_line m s ≡ read_mask m (take (m + 2 - 2) (drop 2 s))
-  unfolding bits_line
-  bits-read e = let count : m + 2 - 2 ≡ m = omega arith in rw (e, count)
-
-  module _ {x : ℕ} (e : bits_line m s ≡ SyndromeRead.Mask x) where
-    pub bits-few : m ≤ row_room
-    bits-few = by-room (ltb row_room m) refl
-      where
-        by-room : (b : Bool) → ltb row_room m ≡ b → m ≤ row_room
-        by-room true f = absurd (no-mask (sym (bits-many (ltb-true row_room m f)) ∙ e))
-        by-room false f = ltb-false row_room m f
-
-    -- A line that was read is within the bytes.
-    pub bits-within : m + 3 ≤ length s
-    unfolding bits_line
-    bits-within = by-feed (eqb (get_or s (m + 2) 0) line_feed) refl e
-      where
-        by-feed : (b : Bool) → eqb (get_or s (m + 2) 0) line_feed ≡ b
-            → cond b (read_mask m (take m (drop 2 s))) SyndromeRead.Malformed ≡ SyndromeRead.Mask x → m + 3 ≤ length s
-        by-feed true f e = omega (arith, feed-within 2 m (read_syndrome m) s f)
-        by-feed false f e = absurd (no-mask e)
-
 module _ (r : ℕ) (s : List ℕ) where
   pub mask-other : (line_kind s ≡ LineKind.Syndrome → ⊥) → mask_line r s ≡ SyndromeRead.Malformed
-  unfolding mask_line bytes
+  unfolding mask_line is_line bytes
   mask-other other = rw (other-begins LineKind.Syndrome s other)
 
-  pub mask-keyed : line_kind s ≡ LineKind.Syndrome → mask_line r s ≡ bits_line r s
-  unfolding mask_line bytes
-  mask-keyed keyed = rw (kind-begins LineKind.Syndrome s (omega arith) keyed)
+  pub mask-many : row_room < r → mask_line r s ≡ SyndromeRead.Malformed
+  unfolding mask_line
+  mask-many h = by-line (is_line (bytes "s=") r s)
+    where
+      by-line : (b : Bool) → cond b (read_mask r (take r (drop 2 s))) SyndromeRead.Malformed ≡ SyndromeRead.Malformed
+      by-line true = many-generators r (take r (drop 2 s)) h
+      by-line false = refl
+
+  -- The line feed, at its place in the line.
+  feed-at : get_or (drop 2 s) r 0 ≡ get_or s (r + 2) 0
+  feed-at = let place : 2 + r ≡ r + 2 = omega arith in get_or-drop 2 s r 0 ∙ ap (λ (i : ℕ). get_or s i 0) place
+
+  pub mask-no-feed : eqb (get_or s (r + 2) 0) line_feed ≡ false → mask_line r s ≡ SyndromeRead.Malformed
+  unfolding mask_line is_line bytes
+  mask-no-feed e = rw (feed-at, e, and-false)
+
+  pub mask-read : line_kind s ≡ LineKind.Syndrome → eqb (get_or s (r + 2) 0) line_feed ≡ true
+      → mask_line r s ≡ read_mask r (take (r + 2 - 2) (drop 2 s))
+  unfolding mask_line is_line bytes
+  mask-read keyed e =
+      let count : r + 2 - 2 ≡ r = omega arith in
+      rw (kind-begins LineKind.Syndrome s (omega arith) keyed, feed-at, e, count)
 
   module _ {m : ℕ} (e : mask_line r s ≡ SyndromeRead.Mask m) where
-    -- A line that was read begins with the key.
-    pub mask-told : (begins (bytes "s=") s ≡ true) × (bits_line r s ≡ SyndromeRead.Mask m)
-    unfolding mask_line
-    mask-told = by_key (begins (bytes "s=") s) refl e
-      where
-        by_key : (b : Bool) → begins (bytes "s=") s ≡ b
-            → cond b (bits_line r s) SyndromeRead.Malformed ≡ SyndromeRead.Mask m
-            → (begins (bytes "s=") s ≡ true) × (bits_line r s ≡ SyndromeRead.Mask m)
-        by_key true begun e = (begun, e)
-        by_key false other e = absurd (no-mask e)
-
     pub mask-few : r ≤ row_room
-    mask-few = bits-few r s mask-told.1
+    mask-few = by-room (ltb row_room r) refl
+      where
+        by-room : (b : Bool) → ltb row_room r ≡ b → r ≤ row_room
+        by-room true f = absurd (no-mask (sym (mask-many (ltb-true row_room r f)) ∙ e))
+        by-room false f = ltb-false row_room r f
 
+    -- A line that was read is within the bytes.
     pub mask-within : syndrome_length r ≤ length s
+    unfolding mask_line is_line bytes syndrome_length line_feed
+    mask-within = by-line (is_line (bytes "s=") r s) refl e
+      where
+        by-line : (b : Bool) → is_line (bytes "s=") r s ≡ b
+            → cond b (read_mask r (take r (drop 2 s))) SyndromeRead.Malformed ≡ SyndromeRead.Mask m → r + 3 ≤ length s
+        by-line true f e =
+            let feed = (both (begins (bytes "s=") s) _ f).1 in
+            omega (arith, feed-within 2 r (read_syndrome r) s (ap (λ b. eqb b 10) (sym feed-at) ∙ feed))
+        by-line false f e = absurd (no-mask e)
+
+-- ---- the lines one by one
+
+then_same : (line : SyndromeRead) (others others' : List ℕ → SyndromeLines) (behind : List ℕ)
+    → others behind ≡ others' behind → lineThen line others behind ≡ lineThen line others' behind
+unfolding lineThen
+then_same (SyndromeRead.Mask m) others others' behind e = ap oneMore e
+then_same SyndromeRead.Malformed others others' behind e = refl
+
+module _ (r : ℕ) where
+  -- As many lines as bytes are enough, and more are as good.
+  pub check-bound : (most more : ℕ) (s : List ℕ) → length s ≤ most → length s ≤ more
+      → checkedLines most r s ≡ checkedLines more r s
+  unfolding checkedLines syndrome_length
+  check-bound zero zero s few fewer = refl
+  check-bound zero (suc more) [] few fewer = refl
+  check-bound (suc most) zero [] few fewer = refl
+  check-bound (suc most) (suc more) [] few fewer = refl
+  check-bound zero (suc more) (b ∷ s) few fewer = absurd (omega arith)
+  check-bound (suc most) zero (b ∷ s) few fewer = absurd (omega arith)
+  check-bound (suc most) (suc more) (b ∷ s) few fewer =
+      let behind = drop (r + 3) (b ∷ s) in
+      let fewer_bytes = length-drop (r + 3) (b ∷ s) in
+      then_same (mask_line r (b ∷ s)) (checkedLines most r) (checkedLines more r) behind
+      (check-bound most more behind (omega arith) (omega arith))
+
+  pub check-ended : checkLines r [] ≡ SyndromeLines.Read
+  unfolding checkLines checkedLines
+  check-ended = refl
+
+  pub check-off : (s : List ℕ) → 0 < length s → mask_line r s ≡ SyndromeRead.Malformed
+      → checkLines r s ≡ SyndromeLines.OffForm 0
+  unfolding checkLines checkedLines lineThen
+  check-off [] some e = absurd (omega arith)
+  check-off (b ∷ s) some e =
+      ap (λ line. lineThen line (checkedLines (length s) r) (drop (syndrome_length r) (b ∷ s))) e
+
+  pub check-more : (s : List ℕ) {m : ℕ} → mask_line r s ≡ SyndromeRead.Mask m
+      → checkLines r s ≡ oneMore (checkLines r (drop (syndrome_length r) s))
+  unfolding checkLines checkedLines lineThen syndrome_length
+  check-more [] {m} e = absurd (omega (arith, mask-within r [] e))
+  check-more (b ∷ s) {m} e =
+      let behind = drop (r + 3) (b ∷ s) in
+      let fewer_bytes = length-drop (r + 3) (b ∷ s) in
+      ap (λ line. lineThen line (checkedLines (length s) r) behind) e
+      ∙ ap oneMore (check-bound (length s) (length behind) behind (omega arith) (omega arith))
+
+-- ---- how many lines stand before a fault
+
+abbrev pub lines_before : SyndromeLines → ℕ
+lines_before SyndromeLines.Read = 0
+lines_before (SyndromeLines.OffForm m) = m
+
+one-more-before : (lines : SyndromeLines) → lines_before (oneMore lines) ≤ lines_before lines + 1
+unfolding oneMore
+one-more-before SyndromeLines.Read = omega arith
+one-more-before (SyndromeLines.OffForm m) = omega arith
+
+then-few : (line : SyndromeRead) (others : List ℕ → SyndromeLines) (behind : List ℕ) (most : ℕ)
+    → lines_before (others behind) ≤ most → lines_before (lineThen line others behind) ≤ suc most
+unfolding lineThen
+then-few (SyndromeRead.Mask m) others behind most few = omega (arith, one-more-before (others behind))
+then-few SyndromeRead.Malformed others behind most few = omega arith
+
+checked-few : (most r : ℕ) (s : List ℕ) → lines_before (checkedLines most r s) ≤ most
+unfolding checkedLines
+checked-few zero r [] = omega arith
+checked-few zero r (b ∷ s) = omega arith
+checked-few (suc most) r [] = omega arith
+checked-few (suc most) r (b ∷ s) =
+    then-few (mask_line r (b ∷ s)) (checkedLines most r) _ most (checked-few most r (drop (syndrome_length r) (b ∷ s)))
+
+-- Each has a byte.
+pub few-before : (r : ℕ) (s : List ℕ) → lines_before (checkLines r s) ≤ length s
+unfolding checkLines
+few-before r s = checked-few (length s) r s
+
+-- ---- what a loop has read
+
+-- So many lines were read before those that are told of.
+unfoldable pub after : ℕ → SyndromeLines → SyndromeLines
+after count SyndromeLines.Read = SyndromeLines.Read
+after count (SyndromeLines.OffForm m) = SyndromeLines.OffForm (count + m)
+
+after_none : (lines : SyndromeLines) → lines ≡ after 0 lines
+unfolding after
+after_none SyndromeLines.Read = refl
+after_none (SyndromeLines.OffForm m) = let same : m ≡ 0 + m = omega arith in ap SyndromeLines.OffForm same
+
+after_one : (count : ℕ) (lines : SyndromeLines) → after count (oneMore lines) ≡ after (count + 1) lines
+unfolding after oneMore
+after_one count SyndromeLines.Read = refl
+after_one count (SyndromeLines.OffForm m) =
+    let same : count + (m + 1) ≡ count + 1 + m = omega arith in ap SyndromeLines.OffForm same
+
+-- So many lines were read, up to a place, and stand before what the rest gives.
+pub record Checked (r : ℕ) (s : List ℕ) (end count : ℕ) : Type 0 where
+  pub few : count ≤ end
+  pub within : end ≤ length s
+  pub so_far : checkLines r s ≡ after count (checkLines r (drop end s))
+
+module _ (r : ℕ) (s : List ℕ) where
+  pub checked-none : Checked r s 0 0
+  checked-none = record { few = omega arith; within = omega arith; so_far = after_none (checkLines r s) }
+
+  module _ {end count : ℕ} (h : Checked r s end count) where
+    -- The line at the place is within the bytes.
+    pub line-within : {m : ℕ} → mask_line r (drop end s) ≡ SyndromeRead.Mask m → end + (r + 3) ≤ length s
     unfolding syndrome_length
-    mask-within = bits-within r s mask-told.1
+    line-within e = omega (arith, mask-within r (drop end s) e, length-drop end s, h.within)
+
+    pub checked-more : {m : ℕ} → mask_line r (drop end s) ≡ SyndromeRead.Mask m
+        → Checked r s (end + (r + 3)) (count + 1)
+    unfolding syndrome_length
+    checked-more e =
+        record {
+          few = omega (arith, h.few);
+          within = line-within e;
+          so_far =
+              h.so_far ∙ ap (after count) (check-more r (drop end s) e)
+              ∙ after_one count (checkLines r (drop (r + 3) (drop end s)))
+              ∙ ap (λ rest. after (count + 1) (checkLines r rest)) (drop-drop (r + 3) end s);
+        }
+
+    pub checked-off : end < length s → mask_line r (drop end s) ≡ SyndromeRead.Malformed
+        → SyndromeLines.OffForm count ≡ checkLines r s
+    unfolding after
+    checked-off inside e =
+        let same : count + 0 ≡ count = omega arith in
+        sym
+        (h.so_far ∙ ap (after count) (check-off r (drop end s) (omega (arith, length-drop end s)) e)
+        ∙ ap SyndromeLines.OffForm same)
+
+    pub checked-all : length s ≤ end → SyndromeLines.Read ≡ checkLines r s
+    unfolding after
+    checked-all all =
+        sym
+        (h.so_far ∙ ap (λ rest. after count (checkLines r rest)) (drop_of_length-le s all)
+        ∙ ap (after count) (check-ended r))

@@ -1,23 +1,25 @@
 -- What is stated of the readers, in the terms of the report's definitions.
-use Rattle.std.specs.Prelude.{Bool, true, false, List, ◌≡◌, ℕ, ◌+◌, ◌≤◌, length, drop}
+use Rattle.std.specs.Prelude.{Bool, List, [], ◌≡◌, ℕ, ◌≤◌, length, drop}
+use Rattle.std.proofs.Math.Option.{none, some}
 use Rattle.pauli.specs.Syndrome.{mask_of_bits}
 use Rattle.refusals.specs.declared.Refusal.{Refusal}
+use Rattle.code_record.specs.declared.Code.{Code}
 use Rattle.code_record.specs.Record.{row_room}
-use Rattle.sheet.specs.Reader.{got, stop, begins, line_of}
-use Rattle.decoder.specs.Syndrome.{read_syndrome}
+use Rattle.sheet.specs.Reader.{got, stop}
 use Rattle.syndrome_reader.specs.declared.SyndromeRead.{SyndromeRead}
-use Rattle.syndrome_lines.specs.SyndromeLines.{bits_line}
+use Rattle.reporting.specs.Report.{syndrome_line, syndrome_lines}
+use Rattle.syndrome_lines.specs.SyndromeLines.{mask_line, syndrome_length, checkLines, lineFault, lines_fault}
 
--- RULES, "The report": behind a key of two bytes the reader reads the bits that a line of so many is read as, and where
--- it reads none the line is refused. A mask has room for 32 of them.
-pub record BitsAreRead (key : List ℕ) (m : ℕ) (refusal : Refusal) (s : List ℕ) : Type 0 where
-  pub read : begins key s ≡ true → (x : ℕ) → bits_line m s ≡ SyndromeRead.Mask x
-      → (bits : List Bool) × (line_of key m (read_syndrome m) refusal s ≡ got bits (drop (m + 3) s))
-      × (x ≡ mask_of_bits bits)
-  pub malformed : begins key s ≡ true → m ≤ row_room → bits_line m s ≡ SyndromeRead.Malformed
-      → line_of key m (read_syndrome m) refusal s ≡ stop refusal
-  pub other_key : begins key s ≡ false → line_of key m (read_syndrome m) refusal s ≡ stop refusal
-
-abbrev pub BitsLinesAreRead : Type 0
-BitsLinesAreRead =
-    (key : List ℕ) → length key ≡ 2 → (m : ℕ) (refusal : Refusal) (s : List ℕ) → BitsAreRead key m refusal s
+-- RULES, "The report": the readers read the lines that a report reads, and where it refuses a line with 16 they name
+-- the same one. A record has room for 32 generators, and with more nothing is read.
+pub record SyndromeLinesAreRead : Type 0 where
+  -- of one line
+  pub line : (c : Code) (at : ℕ) (s : List ℕ) (m : ℕ) → mask_line c.r s ≡ SyndromeRead.Mask m
+      → (bits : List Bool) × (syndrome_line c at s ≡ got bits (drop (syndrome_length c.r) s)) × (m ≡ mask_of_bits bits)
+  pub malformed : (c : Code) (at : ℕ) (s : List ℕ) (refusal : Refusal) → c.r ≤ row_room
+      → lineFault at (mask_line c.r s) ≡ some refusal → syndrome_line c at s ≡ stop refusal
+  -- of all lines
+  pub read : (c : Code) (at : ℕ) (s : List ℕ) → lines_fault at (checkLines c.r s) ≡ none
+      → (syndromes : List (List Bool)) × (syndrome_lines (length s) c at s ≡ got syndromes [])
+  pub off_form : (c : Code) (at : ℕ) (s : List ℕ) (refusal : Refusal) → c.r ≤ row_room
+      → lines_fault at (checkLines c.r s) ≡ some refusal → syndrome_lines (length s) c at s ≡ stop refusal

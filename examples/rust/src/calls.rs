@@ -94,16 +94,6 @@ extern "C" {
         out_length: usize,
     ) -> Answer;
 
-    pub fn reinoften_decode_marked(
-        code: Code,
-        marks: *const u8,
-        marks_length: usize,
-        syndrome: *const u8,
-        syndrome_length: usize,
-        out: *mut u8,
-        out_length: usize,
-    ) -> Answer;
-
     pub fn reinoften_correct(code: Code, syndrome: u32) -> Correction;
 
     pub fn reinoften_report(

@@ -100,28 +100,6 @@ impl Code {
         unsafe { calls::reinoften_decode(*self, start, len, out.as_mut_ptr(), out.len()) }.outcome()
     }
 
-    /// The same where it is known which qubits are lost: a character for each qubit, `1` for a lost one and `0` for any
-    /// other. The correction has letters other than I on lost qubits alone.
-    pub fn decode_marked(
-        &self,
-        marks: &[u8],
-        syndrome: &[u8],
-        out: &mut [u8],
-    ) -> Result<Option<usize>, Refusal> {
-        let answer = unsafe {
-            calls::reinoften_decode_marked(
-                *self,
-                marks.as_ptr(),
-                marks.len(),
-                syndrome.as_ptr(),
-                syndrome.len(),
-                out.as_mut_ptr(),
-                out.len(),
-            )
-        };
-        answer.outcome()
-    }
-
     /// The correction for a syndrome, whose first generator's bit is the lowest; or none.
     pub fn correct(&self, syndrome: u32) -> Result<Option<Pauli>, Refusal> {
         let found = unsafe { calls::reinoften_correct(*self, syndrome) };
@@ -129,8 +107,7 @@ impl Code {
     }
 }
 
-/// Writes the report of a sheet, its syndromes and the marks of lost qubits before them, at most `REPORT_ROOM` bytes,
-/// and answers how many.
+/// Writes the report of a sheet and its syndromes, at most `REPORT_ROOM` bytes, and answers how many.
 pub fn report(input: &[u8], out: &mut [u8]) -> Result<usize, Refusal> {
     let (start, len) = (input.as_ptr(), input.len());
     unsafe { calls::reinoften_report(start, len, out.as_mut_ptr(), out.len()) }.count()

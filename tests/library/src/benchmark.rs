@@ -69,18 +69,6 @@ fn decodes(known: &[Known]) {
     });
     let title = "Decoding, where the search ends early, late, or with `none`.";
     table(title, ["Code", "Search"], rows);
-    let rows = known.iter().flat_map(|code| {
-        let asked = code.lost().into_iter().map(|(ends, marks, syndrome)| {
-            let names = [code.name(), ends.to_string()];
-            (
-                names,
-                questions::decode_marked(&code.code, &marks, &syndrome),
-            )
-        });
-        asked.collect::<Vec<_>>()
-    });
-    let title = "Decoding with d - 1 qubits marked, where one of them or all are struck.";
-    table(title, ["Code", "Struck"], rows);
     let rows = known.iter().map(|code| {
         let (ends, syndrome) = &code.syndromes()[0];
         let names = [code.name(), ends.to_string()];

@@ -14,7 +14,7 @@ use independent::program::text;
 use independent::published;
 use independent::random::{seed_of_clock, Random};
 use independent::record::{Record, LAST_CHANGE};
-use independent::reports::{fixed_inputs, input_of_seed, sheets_of_few_qubits, ROUND};
+use independent::reports::{fixed_inputs, input_of_seed, ROUND};
 use independent::samples::{self, EIGHT};
 use independent::sheet::read_lines;
 use independent::strings::string_count;
@@ -39,7 +39,6 @@ pub fn compare(seed: Option<u64>) -> ExitCode {
     run.read_fixed();
     run.ask_samples();
     run.ask_published();
-    run.ask_every_mark();
     run.read_and_ask_seeds(seed);
     run.ask_any_words();
     let tally = run.comparison.tally();
@@ -105,14 +104,6 @@ impl Run {
         let codes = published::all().into_iter();
         for sheet in codes.chain([published::golay_and_a_qubit()]) {
             self.ask("a published code", Record::of(&sheet));
-        }
-    }
-
-    /// The sample sheets of few qubits, admitted or not: every pattern of marks with every syndrome.
-    fn ask_every_mark(&mut self) {
-        for sheet in sheets_of_few_qubits() {
-            let record = Record::of(&sheet);
-            records::ask_every_mark(&mut self.comparison, "a sample sheet", record);
         }
     }
 

@@ -18,7 +18,7 @@ use limits::check_limits;
 use reinoften::{Code, Refusal, RefusedSheet};
 use rows::ReducedRows;
 
-pub use decoder::{correct, decode, decode_marked};
+pub use decoder::{correct, decode};
 pub use report::report;
 pub use table::Table;
 pub use walk::{Scan, Walk};

@@ -35,7 +35,7 @@ pub fn parts() -> Vec<Part> {
         Part::sampled(40, texts(misnumbered())),
         Part::sampled(15, texts(miscounted())),
         Part::sampled(1, texts(beyond_the_room(&mut random))),
-        Part::sampled(40, texts(misshapen())),
+        Part::sampled(50, texts(misshapen())),
         Part::sampled(10, texts(behind_w())),
         Part::sampled(0, texts(long(&mut random))),
         Part::kept(unchanged(Kind::Lines, [A, EIGHT])),

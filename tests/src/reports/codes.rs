@@ -3,8 +3,6 @@
 use super::Input;
 use crate::codes::{any_code, string_of_weight, with_distance_at_most, with_qubits};
 use crate::codes::{disguised, MOST_DISTANCE};
-use crate::guarantee::Struck;
-use crate::marks::Marks;
 use crate::random::Random;
 use crate::record::Record;
 use crate::sheet::{line, Letter, Row, Sheet};
@@ -82,11 +80,11 @@ pub fn published_code(random: &mut Random) -> Sheet {
     disguised(random, &codes[at])
 }
 
-/// The sheet, and behind it the syndromes of errors that the code corrects, with their marks.
-pub fn with_errors(sheet: &Sheet, errors: Vec<Struck>) -> Input {
+/// The sheet, and behind it the syndromes of errors that the code corrects.
+pub fn with_errors(sheet: &Sheet, errors: Vec<Vec<Letter>>) -> Input {
     let record = Record::of(sheet);
     let mut bytes = sheet.text();
-    bytes.extend(errors.iter().flat_map(|error| of_struck(&record, error)));
+    bytes.extend(errors.iter().flat_map(|letters| of_error(&record, letters)));
     Input {
         errors,
         ..Input::from(bytes)
@@ -94,51 +92,14 @@ pub fn with_errors(sheet: &Sheet, errors: Vec<Struck>) -> Input {
 }
 
 /// So many errors that the code corrects, most as heavy as they may be.
-pub fn light_errors(random: &mut Random, sheet: &Sheet, count: usize) -> Vec<Struck> {
+pub fn light_errors(random: &mut Random, sheet: &Sheet, count: usize) -> Vec<Vec<Letter>> {
     let t = (sheet.d - 1) / 2;
     let error = |_| {
         let any = random.index(t + 1);
         let v = random.pick(&[t, t, any]);
-        Struck::unmarked(string_of_weight(random, sheet.n, v))
+        string_of_weight(random, sheet.n, v)
     };
     (0..count).map(error).collect()
-}
-
-/// So many errors on marked qubits, and light ones among them.
-pub fn lost_errors(random: &mut Random, sheet: &Sheet, count: usize) -> Vec<Struck> {
-    let mut errors = light_errors(random, sheet, count);
-    for error in &mut errors {
-        if random.below(4) > 0 {
-            let marks = right_marks(random, sheet);
-            *error = Struck::on(&marks, marks.any_string(random));
-        }
-    }
-    errors
-}
-
-/// As many marks as there may be, or fewer.
-pub fn right_marks(random: &mut Random, sheet: &Sheet) -> Marks {
-    let (most, fewer) = (sheet.d - 1, random.index(sheet.d));
-    let count = random.pick(&[most, most, fewer]).min(sheet.n);
-    Marks::any(random, sheet.n, count)
-}
-
-/// One mark more than there may be, or still more. A sheet that claims too long a distance has as many as qubits.
-fn too_many_marks(random: &mut Random, sheet: &Sheet) -> Marks {
-    let fewest = sheet.d.min(sheet.n);
-    let more = fewest + random.index(sheet.n - fewest + 1);
-    let count = random.pick(&[fewest, more]);
-    Marks::any(random, sheet.n, count)
-}
-
-/// The lines of an error: that of its marks, where it has them, and that of its syndrome.
-fn of_struck(record: &Record, error: &Struck) -> Vec<u8> {
-    let marks = error.marks.iter().flat_map(of_marks);
-    marks.chain(of_error(record, &error.letters)).collect()
-}
-
-pub fn of_marks(marks: &Marks) -> Vec<u8> {
-    line("l=", &marks.text())
 }
 
 fn of_error(record: &Record, letters: &[Letter]) -> Vec<u8> {
@@ -146,19 +107,15 @@ fn of_error(record: &Record, letters: &[Letter]) -> Vec<u8> {
     line("s=", &syndrome(record, &Row { minus, letters }))
 }
 
-/// So many `s=` lines: of errors that may be a little too heavy, and of any bits. Some have an `l=` line before them,
-/// and most of these are of errors on the marked qubits.
+/// So many `s=` lines: of errors that may be a little too heavy, and of any bits.
 pub fn asked(random: &mut Random, sheet: &Sheet, count: usize) -> Vec<u8> {
     let record = Record::of(sheet);
     let t = (sheet.d - 1) / 2;
     let mut lines = Vec::new();
     for _ in 0..count {
-        let marks = (random.below(4) == 0).then(|| right_marks(random, sheet));
-        lines.extend(marks.iter().flat_map(of_marks));
-        lines.extend(match (random.below(3), &marks) {
-            (0, _) => of_any_bits(random, record.r),
-            (_, Some(marks)) => of_error(&record, &marks.any_string(random)),
-            (_, None) => {
+        lines.extend(match random.below(3) {
+            0 => of_any_bits(random, record.r),
+            _ => {
                 let v = random.pick(&[0, t, t, t + 1]).min(sheet.n);
                 of_error(&record, &string_of_weight(random, sheet.n, v))
             }
@@ -188,37 +145,4 @@ pub fn off_form_line(random: &mut Random, r: usize) -> Vec<u8> {
         5 => line(random.pick(&KEYS), &any_bits(random, r)),
         _ => random.pick(&WHOLE).to_vec(),
     }
-}
-
-/// An `l=` line and what stands behind it. The line may be off its form or have too many marks, and what is behind it
-/// may be nothing, no `s=` line, or one that is off its form; or both at once, and at times all is right.
-pub fn off_form_marks(random: &mut Random, sheet: &Sheet) -> Vec<u8> {
-    const KEYS: [&str; 7] = ["L=", "l:", "l", " l=", "l= ", "l==", "m="];
-    const OTHERS: [&[u8]; 7] = [b"\n", b"s\n", b"S=0\n", b"c=0\n", b"l=\n", b"l", b"w=II\n"];
-    let r = sheet.generators.len();
-    let marks = match random.below(3) {
-        0 => too_many_marks(random, sheet),
-        _ => right_marks(random, sheet),
-    };
-    let right = of_marks(&marks);
-    let at = random.index(right.len());
-    let line_of_marks = match random.below(12) {
-        0 => {
-            let characters = off_form(random, sheet.n);
-            line("l=", &characters[random.index(characters.len())])
-        }
-        1 => damage::deleted(&right, at),
-        2 => damage::inserted(&right, at, random.pick(b"01 \r\0\xffl=\n")),
-        3 => damage::replaced(&right, at, random.pick(b"2 \r\0\xffO=\n")),
-        4 => line(random.pick(&KEYS), &marks.text()),
-        _ => right.clone(),
-    };
-    let behind = match random.below(8) {
-        0 => Vec::new(),
-        1 => random.pick(&OTHERS).to_vec(),
-        2 => [right, of_any_bits(random, r)].concat(),
-        3 => off_form_line(random, r),
-        _ => of_any_bits(random, r),
-    };
-    [line_of_marks, behind].concat()
 }

@@ -21,7 +21,7 @@ pub const DAMAGES: [Damage; 11] = [
 ];
 
 /// Bytes that stand in inputs, so that a letter, a sign, a digit or a key is another.
-const BYTES: &[u8] = b"IXYZ+-0123456789ndgxzwsl=\n";
+const BYTES: &[u8] = b"IXYZ+-0123456789ndgxzws=\n";
 
 /// Bytes that stand in none.
 const ODD_BYTES: &[u8] = b"\0\xff\x80\xb1\r\t\x0b\x1b i{";

@@ -1,10 +1,9 @@
 //! Inputs that are the same in each run: sheets at the edges, published codes, and the samples that are kept as files.
 
-use super::codes::{asked, light_errors, lost_errors, with_errors};
+use super::codes::{asked, light_errors, with_errors};
 use super::Input;
 use crate::codes::single;
 use crate::damage::{self, filled};
-use crate::guarantee::Struck;
 use crate::published;
 use crate::random::Random;
 use crate::samples::{self, A, CLASH, EIGHT, K, L, NINE};
@@ -21,7 +20,7 @@ pub fn inputs() -> Vec<Input> {
     let mut random = Random(0x5eed_000f_2026);
     let mut inputs = of_published(&mut random);
     inputs.push(with_errors(&read(NINE), z_in_first_block()));
-    let texts = [edges(), as_printed(), cut(), damaged(), marked(), long()].concat();
+    let texts = [edges(), as_printed(), cut(), damaged(), long()].concat();
     inputs.extend(texts.into_iter().map(Input::from));
     for (at, input) in (1..).zip(&mut inputs) {
         input.name = format!("fixed input {at}");
@@ -34,19 +33,17 @@ fn read(text: &str) -> Sheet {
     sheet::read_alone(text.as_bytes()).expect("a sheet")
 }
 
-/// Each code by itself, with the syndromes of errors that it corrects, on marked qubits too, and with others.
+/// Each code by itself, with the syndromes of errors that it corrects, and with others.
 fn of_published(random: &mut Random) -> Vec<Input> {
     let mut codes = published::all();
     codes.push(published::golay_and_a_qubit());
     let mut inputs = Vec::new();
     for sheet in codes {
-        let light = light_errors(random, &sheet, ASKED);
-        let lost = lost_errors(random, &sheet, ASKED);
+        let errors = light_errors(random, &sheet, ASKED);
         let others = [sheet.text(), asked(random, &sheet, ASKED)].concat();
         inputs.extend([
             sheet.text().into(),
-            with_errors(&sheet, light),
-            with_errors(&sheet, lost),
+            with_errors(&sheet, errors),
             others.into(),
         ]);
     }
@@ -54,9 +51,9 @@ fn of_published(random: &mut Random) -> Vec<Input> {
 }
 
 /// The three errors of the nine-qubit code that share a syndrome.
-fn z_in_first_block() -> Vec<Struck> {
+fn z_in_first_block() -> Vec<Vec<Letter>> {
     let error = |qubit| single(9, qubit, Letter::Z).letters;
-    (0..3).map(error).map(Struck::unmarked).collect()
+    (0..3).map(error).collect()
 }
 
 /// The sheets at the edges that are written out, some with lines.
@@ -78,11 +75,6 @@ fn a_asked() -> String {
     A.to_string() + "s=0001\ns=1010\n"
 }
 
-/// The last has no marks again.
-fn a_marked() -> String {
-    A.to_string() + "l=11000\ns=1100\nl=00000\ns=1100\ns=1100\n"
-}
-
 fn k_asked() -> String {
     K.to_string() + "s=0\ns=1\n"
 }
@@ -96,7 +88,7 @@ fn as_printed() -> Texts {
 /// Up to each of their bytes.
 fn cut() -> Texts {
     let refuted = samples::starred()[2].clone() + "s=0001\n";
-    let texts = [a_asked(), a_marked(), k_asked(), refuted];
+    let texts = [a_asked(), k_asked(), refuted];
     let prefixes = |text: &String| damage::prefixes(text.as_bytes());
     texts.iter().flat_map(prefixes).collect()
 }
@@ -111,72 +103,10 @@ fn damaged() -> Texts {
         texts.extend(b"0X\n\r".map(|byte| damage::inserted(text, at, byte)));
         texts.push(damage::deleted(text, at));
     }
-    let marked = a_marked();
-    for text in [a.as_bytes(), marked.as_bytes(), k.as_bytes()] {
+    for text in [a.as_bytes(), k.as_bytes()] {
         texts.extend(damage::lines_swapped(text));
         texts.extend(damage::lines_doubled(text));
         texts.extend(damage::lines_dropped(text));
-    }
-    texts
-}
-
-/// Lines of marks that are off their form, with other lines behind them, or with too many marks: each with each line
-/// behind it, by themselves and behind lines that are right. And lines of marks that are damaged in each of their bytes.
-fn marked() -> Texts {
-    const MARKS: [&str; 20] = [
-        "l=00000\n",
-        "l=10001\n",
-        "l=11100\n",
-        "l=11111\n",
-        "l=1100\n",
-        "l=110000\n",
-        "l=111110\n",
-        "l=\n",
-        "l=1100 \n",
-        "l=11002\n",
-        "l=11O00\n",
-        "l=XYIII\n",
-        "l=11000\r\n",
-        "l=11000",
-        "l=",
-        "l",
-        "l\n",
-        "L=11000\n",
-        " l=11000\n",
-        "l==1000\n",
-    ];
-    const BEHIND: [&str; 16] = [
-        "",
-        "s=0000\n",
-        "s=1101\n",
-        "s=1111\ns=1111\n",
-        "l=11000\ns=1100\n",
-        "l=11111\ns=1100\n",
-        "s=1100\nl=11000\n",
-        "s=110\n",
-        "s=11000\n",
-        "s=1102\n",
-        "s=1100\r\n",
-        "s=1100",
-        "s=",
-        "s\n",
-        "c=1100\n",
-        "\n",
-    ];
-    let mut texts = Texts::new();
-    for marks in MARKS {
-        for behind in BEHIND {
-            let lines = [marks, behind].concat();
-            texts.push([A, &lines].concat().into_bytes());
-            texts.push((a_marked() + &lines).into_bytes());
-        }
-    }
-    let k = K.to_string() + "l=00\ns=1\n";
-    for at in K.len()..k.len() {
-        let text = k.as_bytes();
-        texts.extend(b"012ls=\n\0\xff\r".map(|byte| damage::replaced(text, at, byte)));
-        texts.extend(b"01ls=\n\r".map(|byte| damage::inserted(text, at, byte)));
-        texts.push(damage::deleted(text, at));
     }
     texts
 }
@@ -185,19 +115,16 @@ fn marked() -> Texts {
 fn long() -> Texts {
     let lengths = [4095, 4096, 4097, 4098, 100_000];
     let sheets = [K, CLASH, "n=1\n"].map(str::as_bytes);
-    let filled_with = |filler: &[u8]| {
-        let texts = sheets.map(|text| lengths.map(|len| filled(text, filler, len)));
-        texts.concat()
-    };
-    [filled_with(b"s=0\n"), filled_with(b"l=00\ns=1\n")].concat()
+    let texts = sheets.map(|text| lengths.map(|len| filled(text, b"s=0\n", len)));
+    texts.concat()
 }
 
-pub fn samples_folder() -> PathBuf {
+fn samples_folder() -> PathBuf {
     Path::new(env!("CARGO_MANIFEST_DIR")).join("../samples")
 }
 
 /// Each `.sheet` of the folder with the `.report` beside it.
-pub fn kept(folder: &Path) -> Vec<Input> {
+fn kept(folder: &Path) -> Vec<Input> {
     let entries = fs::read_dir(folder).expect("the samples");
     let paths = entries.map(|entry| entry.expect("a file").path());
     let mut sheets: Vec<PathBuf> = paths
@@ -229,7 +156,7 @@ mod tests {
             let report = report(&input.bytes);
             let kept = input.kept.unwrap_or(report.clone());
             assert!(report == kept, "{}", input.name);
-            occurred.see(&report, &input.errors);
+            occurred.see(&report, input.errors.len());
         }
         let missing = occurred.missing();
         let of_codes = |what: &&String| what.starts_with("a code of n=");

@@ -1,9 +1,8 @@
 //! Inputs that are made from seeds. Seeds that follow on one another go through all sizes of codes, and then on to the
 //! next kind of input.
 
-use super::codes::{admitted, asked, light_errors, lost_errors, of_any_bits, of_marks};
-use super::codes::{off_form_line, off_form_marks, published_code, right_marks};
-use super::codes::{smaller, with_errors, Size, MOST_BYTES};
+use super::codes::{admitted, asked, light_errors, of_any_bits, off_form_line};
+use super::codes::{published_code, smaller, with_errors, Size, MOST_BYTES};
 use super::damaged::DAMAGES;
 use super::Input;
 use crate::codes::sizes;
@@ -16,12 +15,10 @@ use crate::sheet::Sheet;
 /// Makes an input with a code of this size, or of a smaller one.
 type Kind = fn(&mut Random, Size) -> Input;
 
-const KINDS: [Kind; 17] = [
+const KINDS: [Kind; 14] = [
     corrected,
-    lost,
     decoded,
     with_many_lines,
-    with_many_marks,
     nearly_too_long,
     too_long,
     faulty,
@@ -30,7 +27,6 @@ const KINDS: [Kind; 17] = [
     any_rows,
     published,
     off_form,
-    marks_off_form,
     miscounted,
     any_bytes,
     damaged_often,
@@ -98,16 +94,6 @@ fn corrected(random: &mut Random, size: Size) -> Input {
     with_errors(&sheet, errors)
 }
 
-/// Errors on marked qubits, and light ones among them.
-fn lost(random: &mut Random, size: Size) -> Input {
-    let sheet = match random.below(4) {
-        0 => published_code(random),
-        _ => admitted(random, size),
-    };
-    let errors = lost_errors(random, &sheet, 12);
-    with_errors(&sheet, errors)
-}
-
 /// Any syndromes.
 fn decoded(random: &mut Random, size: Size) -> Input {
     let sheet = admitted(random, size);
@@ -115,7 +101,7 @@ fn decoded(random: &mut Random, size: Size) -> Input {
     [sheet.text(), asked(random, &sheet, count)].concat().into()
 }
 
-/// As many `s=` lines as there may be, with no marks.
+/// As many `s=` lines as there may be.
 fn with_many_lines(random: &mut Random, size: Size) -> Input {
     let sheet = admitted(random, size);
     let mut text = sheet.text();
@@ -123,24 +109,6 @@ fn with_many_lines(random: &mut Random, size: Size) -> Input {
     let count = (MOST_BYTES - text.len()) / of_any_bits(random, r).len();
     text.extend((0..count).flat_map(|_| of_any_bits(random, r)));
     text.into()
-}
-
-/// The same with marks before them, or before each second one.
-fn with_many_marks(random: &mut Random, size: Size) -> Input {
-    let sheet = admitted(random, size);
-    let (_, r) = size;
-    let each = random.below(2) == 0;
-    let mut text = sheet.text();
-    loop {
-        let mut lines = of_any_bits(random, r);
-        if each || random.below(2) == 0 {
-            lines = [of_marks(&right_marks(random, &sheet)), lines].concat();
-        }
-        if text.len() + lines.len() > MOST_BYTES {
-            return text.into();
-        }
-        text.extend(lines);
-    }
 }
 
 /// One byte less than there may be, to two more.
@@ -208,13 +176,11 @@ fn with_any_fault(random: &mut Random, sheet: Sheet) -> Sheet {
     faulty.find_map(|faulty| faulty).unwrap_or(sheet)
 }
 
-/// The sheet with `s=` and `l=` lines, and in half of the cases with one that is off its form.
+/// The sheet with `s=` lines, and in half of the cases with one that is off its form.
 fn with_any_lines(random: &mut Random, sheet: &Sheet) -> Vec<u8> {
     let mut text = with_lines(random, sheet);
-    match random.below(4) {
-        0 => text.extend(off_form_line(random, sheet.generators.len())),
-        1 => text.extend(off_form_marks(random, sheet)),
-        _ => (),
+    if random.below(2) == 0 {
+        text.extend(off_form_line(random, sheet.generators.len()));
     }
     text
 }
@@ -236,17 +202,6 @@ fn off_form(random: &mut Random, size: Size) -> Input {
     let (sheet, mut text) = small(random, size);
     for _ in 0..1 + random.index(3) {
         text.extend(off_form_line(random, sheet.generators.len()));
-        let count = random.index(2);
-        text.extend(asked(random, &sheet, count));
-    }
-    text.into()
-}
-
-/// The same with `l=` lines.
-fn marks_off_form(random: &mut Random, size: Size) -> Input {
-    let (sheet, mut text) = small(random, size);
-    for _ in 0..1 + random.index(3) {
-        text.extend(off_form_marks(random, &sheet));
         let count = random.index(2);
         text.extend(asked(random, &sheet, count));
     }
@@ -276,7 +231,7 @@ fn any_bytes(random: &mut Random, size: Size) -> Input {
     let (len, any_kind) = (random.index(most), random.below(2) == 0);
     let byte = |_| match any_kind {
         true => random.below(256) as u8,
-        false => random.pick(b"ndgxzwsl=+-IXYZ01\n"),
+        false => random.pick(b"ndgxzws=+-IXYZ01\n"),
     };
     text.extend((0..len).map(byte));
     text.into()
@@ -342,7 +297,7 @@ mod tests {
     fn codes_of_each_size_are_admitted() {
         let mut random = Random(61);
         for (n, r) in sizes() {
-            for kind in [corrected, with_many_lines, with_many_marks] {
+            for kind in [corrected, with_many_lines] {
                 let report = report(&kind(&mut random, (n, r)).bytes);
                 let front = format!("n={n}\nk={}\n", n - r);
                 assert!(report.starts_with(front.as_bytes()), "{n} {r}");

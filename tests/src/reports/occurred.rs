@@ -1,14 +1,13 @@
 //! What occurred in the reports of a run, so that no kind of report is left out unnoticed.
 
 use crate::codes::sizes;
-use crate::guarantee::Struck;
 use crate::sheet::{letters, weight};
 use std::collections::{BTreeMap, BTreeSet};
 use std::fmt::{Display, Formatter, Result};
 
 /// The numbers that a report can have.
 fn numbers() -> impl Iterator<Item = usize> {
-    (1..=14).chain([16, 18, 19])
+    (1..=14).chain([16])
 }
 
 /// A correction is to have each weight up to this.
@@ -24,17 +23,13 @@ pub struct Occurred {
     /// corrections by their weights
     corrections: BTreeMap<usize, usize>,
     without_correction: usize,
-    /// corrections that are heavier than t, which only marks make
-    heavy: usize,
     /// errors that the code corrects
     errors: usize,
-    /// those of them that are on marked qubits
-    lost: usize,
 }
 
 impl Occurred {
-    /// Takes a report in, and the errors that are known whose corrections it has.
-    pub fn see(&mut self, report: &[u8], errors: &[Struck]) {
+    /// Takes a report in, and how many errors are known whose corrections it has.
+    pub fn see(&mut self, report: &[u8], errors: usize) {
         let lines = report.split(|&byte| byte == b'\n');
         let value = |key: &[u8]| {
             let value = lines.clone().find_map(|line| line.strip_prefix(key))?;
@@ -47,16 +42,10 @@ impl Occurred {
             self.sizes.insert((n, k));
             self.admitted += 1;
         }
-        let t = value(b"t=");
-        self.errors += errors.len();
-        self.lost += errors.iter().filter(|error| error.marks.is_some()).count();
+        self.errors += errors;
         for shown in lines.filter_map(|line| line.strip_prefix(b"c=")) {
             match letters(shown, shown.len()) {
-                Some(letters) => {
-                    let weight = weight(&letters);
-                    *self.corrections.entry(weight).or_default() += 1;
-                    self.heavy += usize::from(t.is_some_and(|t| weight > t));
-                }
+                Some(letters) => *self.corrections.entry(weight(&letters)).or_default() += 1,
                 None => self.without_correction += 1,
             }
         }
@@ -72,9 +61,7 @@ impl Occurred {
         self.sizes.extend(other.sizes);
         self.admitted += other.admitted;
         self.without_correction += other.without_correction;
-        self.heavy += other.heavy;
         self.errors += other.errors;
-        self.lost += other.lost;
     }
 
     /// What every run has to have, and this one has not.
@@ -86,16 +73,10 @@ impl Occurred {
         let codes = codes.map(|(n, k)| format!("a code of n={n} and k={k}"));
         let weights = (0..=WEIGHT).filter(|weight| !self.corrections.contains_key(weight));
         let weights = weights.map(|weight| format!("a correction of weight {weight}"));
-        let counted = [
-            (self.without_correction, "c=none"),
-            (self.heavy, "a correction heavier than t"),
-            (self.errors, "an error that is corrected"),
-            (self.lost, "an error on marked qubits"),
-        ];
-        let counted = counted.into_iter().filter(|(count, _)| *count == 0);
-        let counted = counted.map(|(_, what)| what.to_string());
+        let none = (self.without_correction == 0).then(|| "c=none".to_string());
+        let errors = (self.errors == 0).then(|| "an error that is corrected".to_string());
         let missing = refusals.chain(codes).chain(weights);
-        missing.chain(counted).collect()
+        missing.chain(none).chain(errors).collect()
     }
 }
 
@@ -111,14 +92,11 @@ impl Display for Occurred {
             .collect();
         write!(
             to,
-            "{} codes of {} sizes,{refusals}\nand corrections:{corrections} {} none, {} heavier than t, {} of errors \
-             that have to have one, {} of these on marked qubits",
+            "{} codes of {} sizes,{refusals}\nand corrections:{corrections} {} none, {} of errors that have to have one",
             self.admitted,
             self.sizes.len(),
             self.without_correction,
-            self.heavy,
-            self.errors,
-            self.lost
+            self.errors
         )
     }
 }
@@ -126,42 +104,25 @@ impl Display for Occurred {
 #[cfg(test)]
 mod tests {
     use super::*;
-    use crate::marks::Marks;
 
     #[test]
     fn what_is_missing_is_told() {
         let mut occurred = Occurred::default();
-        assert_eq!(occurred.missing().len(), 17 + 276 + 3 + 4);
-        let light = [Struck::unmarked(Vec::new())];
-        let marks = Marks::read(2, b"10").unwrap();
-        let lost = [Struck::on(&marks, Vec::new())];
+        assert_eq!(occurred.missing().len(), 15 + 276 + 3 + 2);
         for (n, r) in sizes() {
-            let numbers = format!("n={n}\nk={}\nd=3\nt=1\nh=+XX\nc=II\nc=XI\n", n - r);
-            occurred.see(numbers.as_bytes(), &light);
+            let numbers = format!("n={n}\nk={}\nd=1\nt=0\nh=+XX\nc=II\nc=XI\n", n - r);
+            occurred.see(numbers.as_bytes(), 1);
         }
         for number in numbers().filter(|&number| number != 13) {
-            occurred.see(format!("r={number}\nat=3\n").as_bytes(), &[]);
+            occurred.see(format!("r={number}\nat=3\n").as_bytes(), 0);
         }
-        let missing = [
-            "r=13",
-            "a correction of weight 2",
-            "c=none",
-            "a correction heavier than t",
-            "an error on marked qubits",
-        ];
+        let missing = ["r=13", "a correction of weight 2", "c=none"];
         assert_eq!(occurred.missing(), missing);
         let mut others = Occurred::default();
-        others.see(b"n=2\nk=1\nt=1\nc=ZY\nc=none\n", &lost);
-        others.see(b"r=13\nat=9\n", &[]);
+        others.see(b"n=2\nk=1\nc=ZY\nc=none\n", 0);
+        others.see(b"r=13\nat=9\n", 0);
         occurred.add(others);
         assert!(occurred.missing().is_empty());
-        let Occurred {
-            admitted,
-            errors,
-            lost,
-            heavy,
-            ..
-        } = occurred;
-        assert_eq!((admitted, errors, lost, heavy), (277, 277, 1, 1));
+        assert_eq!((occurred.admitted, occurred.errors), (277, 276));
     }
 }

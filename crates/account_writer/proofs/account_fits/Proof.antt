@@ -1,8 +1,7 @@
 -- The lines of the code do not fit, or the corrections decide.
-use mathlib.Core.Path.{ap, ap₂, ◌∙◌}
+use mathlib.Core.Path.{ap₂, ◌∙◌}
 use Prim.Native.Nat.{ℕ, ◌-◌}
 use native.Mathlib.Omega.{arith}
-use Rattle.code_record.specs.Record.{radius}
 use Rattle.correction_lines.specs.CorrectionLines.{corrections_fit}
 use Rattle.account_writer.proofs.Account.{front-unfit, rest-decides}
 use borrow.Author.Rules.{rules}
@@ -12,26 +11,22 @@ use Rattle.account_writer.proofs.account_fits.Tie as tie
 returns : tie.Need-returns
 returns c =
     let a = c.before.before.before.args in
-    front-unfit a.code a.reduced a.words a.lines.now a.room
+    front-unfit a.code a.reduced a.words a.syndromes.now a.room
     (omega (arith, c.if1.true, c.before.code-length.ensures))
 
 returns-2 : tie.Need-returns-2
 returns-2 c =
-    let start = c.before.before.before.before.before.before in
+    let start = c.before.before.before.before.before in
     let a = start.args in
-    let passed = c.before.before.before in
+    let passed = c.before.before in
     let front = passed.before.code-length.ensures in
-    rest-decides a.code a.reduced a.words a.lines.now a.room start.requires.1.0 start.requires.1.1
+    rest-decides a.code a.reduced a.words a.syndromes.now a.room start.requires.1.0 start.requires.1.1
     (omega (arith, passed.if1.false, front))
     (c.corrections-fit.ensures
-    ∙ ap₂ (λ (t most : ℕ). corrections_fit a.words t a.code.r most a.lines.now
-    (a.room - passed.before.code-length.result))
-    c.before.before.radius.ensures c.before.most-marks.ensures
-    ∙ ap (λ (front : ℕ). corrections_fit a.words (radius a.code) a.code.r (a.code.d - 1) a.lines.now
-    (a.room - front)) front)
+    ∙ ap₂ (λ (t front : ℕ). corrections_fit a.words t a.code.r a.syndromes.now (a.room - front))
+    c.before.radius.ensures front)
 
 pub account_fits_spec : {M : Type 1} → statement M
 account_fits_spec =
     tie.close
-    (tie.spec (λ c κs. search rules) returns (λ c κs. search rules) (λ c κs. search rules) (λ c κs. search rules)
-    returns-2)
+    (tie.spec (λ c κs. search rules) returns (λ c κs. search rules) (λ c κs. search rules) returns-2)

@@ -1,6 +1,6 @@
 -- Behind each call the slice holds the lines up to there, and `end` is their length.
 use mathlib.Core.List.{List, ◌++◌}
-use mathlib.Core.Path.{◌≡◌, ap, ap₂, ◌∙◌}
+use mathlib.Core.Path.{◌≡◌, ap, ◌∙◌}
 use Prim.Native.Nat.{ℕ, ◌+◌, ◌≤◌}
 use native.Mathlib.Omega.{arith}
 use lib.ListN.{length}
@@ -31,7 +31,7 @@ module _ (c : tie.Start) where
   words = c.args.words
 
   abbrev s : List ℕ
-  s = c.args.lines.now
+  s = c.args.syndromes.now
 
   abbrev buffer : List ℕ
   buffer = c.args.out.now
@@ -44,19 +44,19 @@ module _ (c : tie.Start) where
 
 -- ---- behind the code's lines
 
-module _ (c : tie.After-most-marks) where
+module _ (c : tie.After-radius) where
   abbrev start : tie.Start
-  start = c.before.before.before.before.before.before.before.before
+  start = c.before.before.before.before.before.before.before
 
   abbrev end : ℕ
-  end = c.before.before.before.before.code_lines.result
+  end = c.before.before.before.code_lines.result
 
   abbrev out : List ℕ
-  out = c.before.before.before.before.code_lines.new.1.1.0
+  out = c.before.before.before.code_lines.new.1.1.0
 
   behind-code : Holds (code_by (code start) (reduced start)) (buffer start) out end
   behind-code =
-      let call = c.before.before.before.before.code_lines in
+      let call = c.before.before.before.code_lines in
       record { content = call.ensures.1; count = call.ensures.0; size = call.auto.1.1.0 }
 
   inside : end ≤ length out
@@ -65,25 +65,22 @@ module _ (c : tie.After-most-marks) where
 -- ---- behind the corrections
 
 module _ (c : tie.After-count) where
-  abbrev first : tie.After-most-marks
+  abbrev first : tie.After-radius
   first = c.before.before.before.before.before
 
   abbrev at : tie.Start
   at = start first
 
   abbrev given : List ℕ
-  given = corrections_text (words at) first.before.radius.result (code at).r first.most-marks.result (s at)
+  given = corrections_text (words at) first.radius.result (code at).r (s at)
 
   same-corrections : given ≡ corrections (code at) (reduced at) (words at) (s at)
-  same-corrections =
-      ap₂ (λ (t most : ℕ). corrections_text (words at) t (code at).r most (s at)) first.before.radius.ensures
-      first.most-marks.ensures
+  same-corrections = ap (λ (t : ℕ). corrections_text (words at) t (code at).r (s at)) first.radius.ensures
 
   abbrev part : List ℕ
   part = lent (end first) (out first)
 
-  whole : write_corrections (words at) first.before.radius.result (code at).r first.most-marks.result (s at)
-      part
+  whole : write_corrections (words at) first.radius.result (code at).r (s at) part
       ≡ record { answer = Written.Count (length given); buffer = laid given part }
   unfolding write_corrections
   whole =
@@ -95,13 +92,13 @@ module _ (c : tie.After-count) where
       ))
 
   behind-all : Holds (account_by (code at) (reduced at) (words at) (s at)) (buffer at)
-      (back (end first) (out first) c.before.before.before.write-corrections.new.1.1.1.1.1.0)
+      (back (end first) (out first) c.before.before.before.write-corrections.new.1.1.1.1.0)
       (end first + c.count.result)
   behind-all =
       let call = c.before.before.before.write-corrections in
       holds_as
       (holds_more (behind-code first) given (count-is given part whole call.ensures.0 c.count.ensures)
-      (content-is given part whole call.ensures.1) call.auto.1.1.1.1.1.0)
+      (content-is given part whole call.ensures.1) call.auto.1.1.1.1.0)
       (ap (λ (lines : List ℕ). code_by (code at) (reduced at) ++ lines) same-corrections
       ∙ account-parts (code at) (reduced at) (words at) (s at))
 
@@ -123,7 +120,6 @@ account_lines_spec =
     tie.close
     (tie.spec
     code-lines-requires
-    (λ c κs. search rules)
     (λ c κs. search rules)
     inside
     inside

@@ -23,7 +23,7 @@ use Rattle.account_writer.proofs.write_account.Tie as tie
 -- The lines by the words of the record itself.
 abbrev own : tie.Start → List ℕ
 own c =
-    let a = c.args in account_by a.code a.reduced (syndrome_words a.code) a.lines.now
+    let a = c.args in account_by a.code a.reduced (syndrome_words a.code) a.syndromes.now
 
 -- ---- the words
 
@@ -52,11 +52,11 @@ module _ (c : tie.After-syndrome-words) where
   bounds = omega (arith, qubits, low, high)
 
   abbrev text : List ℕ
-  text = account_by code start.args.reduced words start.args.lines.now
+  text = account_by code start.args.reduced words start.args.syndromes.now
 
   same_text : text ≡ own start
   same_text =
-      ap (λ (w : LetterWords). account_by code start.args.reduced w start.args.lines.now)
+      ap (λ (w : LetterWords). account_by code start.args.reduced w start.args.syndromes.now)
       c.syndrome-words.ensures
 
 -- ---- with room

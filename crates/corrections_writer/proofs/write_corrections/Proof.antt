@@ -19,14 +19,14 @@ returns : tie.Need-returns
 unfolding write_corrections
 returns c =
     let a = c.before.before.before.before.args in
-    outside-limits a.words.qubits (corrections_text a.words a.t a.r a.most a.lines.now) a.out.now
+    outside-limits a.words.qubits (corrections_text a.words a.t a.r a.syndromes.now) a.out.now
     (outside-between 2 most_qubits a.words.qubits (inl (search rules)))
 
 returns-2 : tie.Need-returns-2
 unfolding write_corrections
 returns-2 c =
     let a = c.before.before.before.before.before.before.args in
-    outside-limits a.words.qubits (corrections_text a.words a.t a.r a.most a.lines.now) a.out.now
+    outside-limits a.words.qubits (corrections_text a.words a.t a.r a.syndromes.now) a.out.now
     (outside-between 2 most_qubits a.words.qubits (inr (search rules)))
 
 -- ---- behind the two tests of the qubits
@@ -36,7 +36,7 @@ module _ (c : tie.After-corrections-fit) where
   start = c.before.before.before.before.before.before.before
 
   abbrev text : List ℕ
-  text = let a = start.args in corrections_text a.words a.t a.r a.most a.lines.now
+  text = corrections_text start.args.words start.args.t start.args.r start.args.syndromes.now
 
   abbrev qubits : ℕ
   qubits = start.args.words.qubits
@@ -48,7 +48,7 @@ room : (c : tie.Else3) → length (text c.before) ≤ length (start c.before).ar
 room c =
     let a = (start c.before).args in
     let b = bounds c.before in
-    fit-room a.words a.t a.r a.most a.lines.now (length a.out.now) b.0 b.1
+    fit-room a.words a.t a.r a.syndromes.now (length a.out.now) b.0 b.1
     (sym (passed c.before.corrections-fit.ensures c.if3.false))
 
 -- ---- the needs
@@ -59,7 +59,7 @@ returns-3 c =
     let a = (start c.before).args in
     let b = bounds c.before in
     too_short (qubits c.before) (text c.before) a.out.now b.0 b.1
-    (unfit-room a.words a.t a.r a.most a.lines.now (length a.out.now) b.0 b.1
+    (unfit-room a.words a.t a.r a.syndromes.now (length a.out.now) b.0 b.1
     (sym (failed c.before.corrections-fit.ensures c.if3.true)))
 
 correction-lines-requires : tie.Need-correction-lines-requires

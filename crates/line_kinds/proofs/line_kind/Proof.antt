@@ -1,4 +1,4 @@
--- Bytes that have no key are of no kind; else the byte of the key is one of the eight, or none of them.
+-- Bytes that have no key are of no kind; else the byte of the key is one of the seven, or none of them.
 use mathlib.Core.Bool.{cond}
 use mathlib.Core.List.{List, [], ◌∷◌}
 use mathlib.Core.Path.{◌≡◌, ap, sym, ◌∙◌}
@@ -10,7 +10,7 @@ use lib.ListN.{get_or, get_or-eq_default}
 use Rattle.letters.specs.Lists.{first_of, read_byte}
 use Rattle.letters.proofs.Lists.{read_byte-skip}
 use Rattle.line_kinds.specs.declared.LineKind.TheVariants.{Qubits, Distance, Generator, LogicalX, LogicalZ}
-use Rattle.line_kinds.specs.declared.LineKind.TheVariants.{Claim, Syndrome, Marks, Other}
+use Rattle.line_kinds.specs.declared.LineKind.TheVariants.{Claim, Syndrome, Other}
 use Rattle.line_kinds.specs.LineKinds.{kind_byte, or_other, kind_of, line_kind}
 use Rattle.line_kinds.proofs.line_kind.Statement.{statement}
 use Rattle.line_kinds.proofs.line_kind.Tie as tie
@@ -65,25 +65,20 @@ returns-9 c = ap kind_of (sym c.match.keys7) ∙ by_byte c.before
 
 returns-10 : tie.Need-returns-10
 unfolding kind_of read_byte first_of
-returns-10 c = ap kind_of (sym c.match.keys8) ∙ by_byte c.before
-
-returns-11 : tie.Need-returns-11
-unfolding kind_of read_byte first_of
-returns-11 c =
+returns-10 c =
     let key = get_or (s c.before) 0 0 in
     ap or_other
     (sym
-    (read_byte-skip kind_byte Qubits (Distance ∷ Generator ∷ LogicalX ∷ LogicalZ ∷ Claim ∷ Syndrome ∷ Marks ∷ []) key
-    c.match.rest.0.0.0.0.0.0.0.1
-    ∙ read_byte-skip kind_byte Distance (Generator ∷ LogicalX ∷ LogicalZ ∷ Claim ∷ Syndrome ∷ Marks ∷ []) key
+    (read_byte-skip kind_byte Qubits (Distance ∷ Generator ∷ LogicalX ∷ LogicalZ ∷ Claim ∷ Syndrome ∷ []) key
     c.match.rest.0.0.0.0.0.0.1
-    ∙ read_byte-skip kind_byte Generator (LogicalX ∷ LogicalZ ∷ Claim ∷ Syndrome ∷ Marks ∷ []) key
+    ∙ read_byte-skip kind_byte Distance (Generator ∷ LogicalX ∷ LogicalZ ∷ Claim ∷ Syndrome ∷ []) key
     c.match.rest.0.0.0.0.0.1
-    ∙ read_byte-skip kind_byte LogicalX (LogicalZ ∷ Claim ∷ Syndrome ∷ Marks ∷ []) key c.match.rest.0.0.0.0.1
-    ∙ read_byte-skip kind_byte LogicalZ (Claim ∷ Syndrome ∷ Marks ∷ []) key c.match.rest.0.0.0.1
-    ∙ read_byte-skip kind_byte Claim (Syndrome ∷ Marks ∷ []) key c.match.rest.0.0.1
-    ∙ read_byte-skip kind_byte Syndrome (Marks ∷ []) key c.match.rest.0.1
-    ∙ read_byte-skip kind_byte Marks [] key c.match.rest.1))
+    ∙ read_byte-skip kind_byte Generator (LogicalX ∷ LogicalZ ∷ Claim ∷ Syndrome ∷ []) key
+    c.match.rest.0.0.0.0.1
+    ∙ read_byte-skip kind_byte LogicalX (LogicalZ ∷ Claim ∷ Syndrome ∷ []) key c.match.rest.0.0.0.1
+    ∙ read_byte-skip kind_byte LogicalZ (Claim ∷ Syndrome ∷ []) key c.match.rest.0.0.1
+    ∙ read_byte-skip kind_byte Claim (Syndrome ∷ []) key c.match.rest.0.1
+    ∙ read_byte-skip kind_byte Syndrome [] key c.match.rest.1))
     ∙ by_byte c.before
 
 pub line_kind_spec : {M : Type 1} → statement M
@@ -101,5 +96,4 @@ line_kind_spec =
     returns-7
     returns-8
     returns-9
-    returns-10
-    returns-11)
+    returns-10)

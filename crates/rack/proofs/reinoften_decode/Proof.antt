@@ -1,13 +1,22 @@
 -- The answer of the call below, as numbers.
-use mathlib.Core.Path.{ap, ◌∙◌}
+use mathlib.Core.Path.{◌≡◌, refl, ap, ◌∙◌}
+use Prim.Native.Nat.{ℕ}
 use lib.ListN.{length}
-use Rattle.rack_answers.specs.Answers.{letters_answer}
+use Rattle.decoder.specs.declared.Decoded.{Decoded}
+use Rattle.decoding.specs.Letters.{letters_decoded}
+use Rattle.rack_answers.specs.Answers.{decoded_answer, letters_answer}
 use Rattle.rack.specs.Calls.{in_numbers, decode_call}
-use Rattle.rack.proofs.Counted.{counted}
 use Rattle.rack.proofs.Lengths.{length-decoded}
 use borrow.Author.Rules.{rules}
 use Rattle.rack.proofs.reinoften_decode.Statement.{statement}
 use Rattle.rack.proofs.reinoften_decode.Tie as tie
+
+-- The count that the call answers is n.
+counted : (n : ℕ) (answer : Decoded) → letters_answer (letters_decoded n answer) ≡ decoded_answer n answer
+unfolding letters_decoded
+counted n Decoded.Correction = refl
+counted n Decoded.None = refl
+counted n (Decoded.Refused refusal) = refl
 
 same_length : tie.Need-same-length
 same_length c =

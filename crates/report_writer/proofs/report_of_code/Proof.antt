@@ -1,22 +1,22 @@
--- The report by the first fault of the lines.
+-- The report by the check of the lines, case by case.
 use mathlib.Core.List.{List}
 use mathlib.Core.Path.{◌≡◌, ap, sym, ◌∙◌}
-use Prim.Native.Nat.{ℕ, ◌+◌, ◌-◌, ◌≤◌}
+use Prim.Native.Nat.{ℕ, ◌+◌, ◌≤◌}
 use native.Mathlib.Omega.{arith}
 use lib.ListN.{length}
-use Rattle.refusals.specs.declared.Checked.{Checked}
-use Rattle.refusals.specs.Refusals.{checked_refusal}
-use Rattle.asked_lines.specs.declared.AskedLines.{AskedLines}
-use Rattle.asked_lines.specs.AskedLines.{check_asked, lines_before, lines_fault}
-use Rattle.asked_lines.proofs.Checking.{few-before}
+use Rattle.refusals.specs.declared.Refusal.{Refusal}
+use Rattle.refusal_writer.specs.RefusalLines.{write_refusal}
+use Rattle.syndrome_lines.specs.declared.SyndromeLines.{SyndromeLines}
+use Rattle.syndrome_lines.proofs.Lines.{lines_before, few-before}
+use Rattle.syndrome_lines.specs.SyndromeLines.{lines_fault}
 use Rattle.report_writer.specs.Reports.{write_by_fault, write_checked}
 use borrow.Author.Rules.{rules}
 use Rattle.report_writer.proofs.report_of_code.Statement.{statement}
 use Rattle.report_writer.proofs.report_of_code.Tie as tie
 
-module _ (c : tie.After-check-asked) where
+module _ (c : tie.After-check-syndromes) where
   abbrev start : tie.Start
-  start = c.before.before.before.before
+  start = c.before.before.before
 
   abbrev s : List ℕ
   s = start.args.behind.now
@@ -24,63 +24,62 @@ module _ (c : tie.After-check-asked) where
   abbrev buffer : List ℕ
   buffer = start.args.out.now
 
-  -- What was told of the lines, with d - 1 marks at most.
-  lines_are :
-      let code = start.args.code in c.check-asked.result ≡ check_asked code.n code.r (code.d - 1) s
-  lines_are =
-      c.check-asked.ensures
-      ∙ ap (λ (most : ℕ). check_asked start.args.code.n start.args.code.r most s)
-      c.before.most-marks.ensures
-
-  -- The lines before a fault are no more than the bytes.
-  few : lines_before c.check-asked.result ≤ length s
-  few =
-      let a = start.args in
-      omega (arith, ap lines_before lines_are, few-before a.code.n a.code.r (a.code.d - 1) s)
-
-module _ (c : tie.After-line-fault) where
-  abbrev checks : tie.After-check-asked
-  checks = c.before
-
-  by_answer : {answer : Checked} → c.line-fault.result ≡ answer
-      → let a = (start checks).args in
-      write_by_fault a.code a.reduced (s checks) (buffer checks) (checked_refusal answer)
-      ≡ write_checked a.code a.reduced a.at (s checks) (buffer checks)
+  by_answer : {answer : SyndromeLines} → c.check-syndromes.result ≡ answer
+      → write_by_fault start.args.code start.args.reduced s buffer (lines_fault (start.args.at + 1) answer)
+      ≡ write_checked start.args.code start.args.reduced start.args.at s buffer
   unfolding write_checked
   by_answer told =
-      let a = (start checks).args in
-      ap (write_by_fault a.code a.reduced (s checks) (buffer checks))
-      (ap checked_refusal (sym told) ∙ c.line-fault.ensures ∙ ap (lines_fault (a.at + 1)) (lines_are checks))
+      let a = start.args in
+      ap (λ lines. write_by_fault a.code a.reduced s buffer (lines_fault (a.at + 1) lines))
+      (sym told ∙ c.check-syndromes.ensures)
+
+  -- The lines before a fault are no more than the bytes.
+  few : {m : ℕ} → c.check-syndromes.result ≡ SyndromeLines.OffForm m → m ≤ length s
+  few told =
+      let count = ap lines_before (sym told ∙ c.check-syndromes.ensures) in
+      omega (arith, few-before start.args.code.r s)
+
+-- The refusal that is written names the line behind w and as many more as were read.
+refused : (c : tie.After-write-refusal)
+    → let told = c.before.before.before in
+    let at = (start told.before.before).args.at in
+    c.write-refusal.result
+    ≡ (write_refusal (Refusal.Syndrome (at + 1 + told.before2.given.0.0)) (buffer told.before.before)).answer
+refused c = c.write-refusal.ensures.0
 
 -- ---- the needs
 
+add-t12 : tie.Need-overflow-add-t12
+add-t12 c =
+    let checks = c.before.before.before in
+    record { fits = omega (arith, few checks c.before.before2.given.1, (start checks).requires) }
+
 returns : tie.Need-returns
-unfolding write_by_fault
+unfolding write_by_fault lines_fault
 returns c =
     let call = c.before.before.write-account in
-    let told = c.before.before.before.before in
-    let e = by_answer told.before.before told.enum_told.given.1 in
+    let checks = c.before.before.before.before.before.before in
+    let e = by_answer checks c.before.before.before.before.enum_told.given.1 in
     (call.ensures.0 ∙ ap (λ after. after.answer) e, call.ensures.1 ∙ ap (λ after. after.buffer) e)
 
 returns-2 : tie.Need-returns-2
-unfolding write_by_fault
+unfolding write_by_fault lines_fault
 returns-2 c =
-    let call = c.before.before.write-refusal in
+    let call = c.before.before in
     let told = c.before.before.before.before.before in
-    let e = by_answer told.before.before told.refusal.given.1 in
-    (call.ensures.0 ∙ ap (λ after. after.answer) e, call.ensures.1 ∙ ap (λ after. after.buffer) e)
+    let e = by_answer told.before.before told.before2.given.1 in
+    (refused call ∙ ap (λ after. after.answer) e, call.write-refusal.ensures.1 ∙ ap (λ after. after.buffer) e)
 
 pub report_of_code_spec : {M : Type 1} → statement M
 report_of_code_spec =
     tie.close
     (tie.spec
     (λ c κs. search rules)
-    (λ c κs. search rules)
-    (λ c. search rules)
-    (λ c κs. omega (arith, few c, (start c).requires))
     (λ c. search rules)
     (λ c κs. search rules)
     (λ c. search rules)
+    (λ c. search rules)
+    add-t12
     (λ c κs. search rules)
     (λ c. search rules)
     returns

@@ -64,20 +64,6 @@ impl Known {
             .collect()
     }
 
-    /// Marks on the first d - 1 qubits, with the syndromes of the first and of the last error on them that is not I.
-    pub fn lost(&self) -> [(&'static str, Vec<u8>, Vec<u8>); 2] {
-        let (n, marked) = (self.code.n, self.code.d - 1);
-        let marks: Vec<u8> = (0..n)
-            .map(|at| if at < marked { b'1' } else { b'0' })
-            .collect();
-        let [mut first, mut last] = [(); 2].map(|()| vec![Letter::I; n]);
-        first[marked - 1] = Letter::X;
-        last[..marked].fill(Letter::Z);
-        let syndromes = [first, last].map(|letters| self.syndrome(&letters));
-        let [one, all] = syndromes;
-        [("one", marks.clone(), one), ("all", marks, all)]
-    }
-
     fn syndrome(&self, letters: &[Letter]) -> Vec<u8> {
         let (minus, letters) = (false, letters.to_vec());
         let record::Pauli { p, a, b } = record::Pauli::of(&Row { minus, letters });

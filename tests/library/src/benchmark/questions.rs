@@ -42,21 +42,6 @@ pub fn decode(code: &Code, syndrome: &[u8]) -> Times {
     ])
 }
 
-pub fn decode_marked(code: &Code, marks: &[u8], syndrome: &[u8]) -> Times {
-    let asked = || (*black_box(code), black_box(marks), black_box(syndrome));
-    timed_texts::<_, LETTERS_ROOM, 3>([
-        &|out| {
-            let (code, marks, syndrome) = asked();
-            plain::decode_marked::<Scan>(code, marks, syndrome, out)
-        },
-        &|out| {
-            let (code, marks, syndrome) = asked();
-            plain::decode_marked::<Table>(code, marks, syndrome, out)
-        },
-        &|out| black_box(code).decode_marked(black_box(marks), black_box(syndrome), out),
-    ])
-}
-
 pub fn correct(code: &Code, syndrome: &[u8]) -> Times {
     let bits = syndrome.iter().rev();
     let mask = bits.fold(0, |mask, &byte| 2 * mask + u32::from(byte == b'1'));

@@ -1,4 +1,4 @@
-//! The eight calls, each made with buffers of several kinds and compared with what the independent implementation has.
+//! The seven calls, each made with buffers of several kinds and compared with what the independent implementation has.
 
 use super::areas::{Area, Place, Side};
 use super::expected::{self, written, Outcome, Subject, WrappedOutcome};
@@ -8,16 +8,12 @@ use independent::program::text;
 use independent::random::Random;
 use independent::record::{put, Pauli};
 use independent::report::report;
-use independent::sheet::weight;
 use reinoften::calls::{self, Answer};
 use std::fmt::Debug;
 use std::ptr;
 
 /// As many bytes as the longest input has.
 const INPUT_ROOM: usize = 100_000;
-
-/// As many bytes as the longest marks have, and more.
-const MARKS_ROOM: usize = 4096;
 
 /// So many hold every report and some more.
 const OUT_ROOM: usize = 32_768 + LONGER;
@@ -41,11 +37,9 @@ struct Writing<'a> {
     wrapped: &'a dyn Fn(&mut [u8]) -> WrappedOutcome,
 }
 
-/// Makes calls and compares them. What calls read is in a place of its own, and so are marks, which are read beside a
-/// syndrome.
+/// Makes calls and compares them. What calls read is in a place of its own.
 pub struct Comparison {
     input: Area,
-    marks: Area,
     judge: Judge,
 }
 
@@ -67,12 +61,8 @@ impl Comparison {
             random,
             tally: Tally::default(),
         };
-        let [input, marks] = [INPUT_ROOM, MARKS_ROOM].map(Area::of);
-        Comparison {
-            input,
-            marks,
-            judge,
-        }
+        let input = Area::of(INPUT_ROOM);
+        Comparison { input, judge }
     }
 
     pub fn tally(&self) -> &Tally {
@@ -86,7 +76,7 @@ impl Comparison {
     }
 
     pub fn read_sheet(&mut self, bytes: &[u8]) {
-        let Comparison { input, judge, .. } = self;
+        let Comparison { input, judge } = self;
         let side = judge.side();
         let sheet = input.holding(bytes, side);
         let admitted = admit(bytes);
@@ -108,7 +98,7 @@ impl Comparison {
 
     /// With each of the rooms.
     pub fn report(&mut self, bytes: &[u8], rooms: &[Room]) {
-        let Comparison { input, judge, .. } = self;
+        let Comparison { input, judge } = self;
         let side = judge.side();
         let input = input.holding(bytes, side);
         let report = report(bytes);
@@ -169,7 +159,7 @@ impl Comparison {
     }
 
     pub fn decode(&mut self, subject: &Subject, characters: &[u8]) {
-        let Comparison { input, judge, .. } = self;
+        let Comparison { input, judge } = self;
         let code = &subject.code;
         let side = judge.side();
         let lent = input.holding(characters, side);
@@ -186,56 +176,6 @@ impl Comparison {
             };
             judge.tally.saw_way(call, way);
             judge.write(&writing, &Room::ALL);
-        }
-    }
-
-    /// With each of the rooms.
-    pub fn decode_marked(
-        &mut self,
-        subject: &Subject,
-        marks: &[u8],
-        characters: &[u8],
-        rooms: &[Room],
-    ) {
-        let Comparison {
-            input,
-            marks: area,
-            judge,
-        } = self;
-        let code = &subject.code;
-        let [side, side_of_marks] = [judge.side(), judge.side()];
-        let lent = input.holding(characters, side);
-        let lent_marks = area.holding(marks, side_of_marks);
-        let found = subject.marked(marks, characters);
-        if let Ok(Some(letters)) = &found {
-            judge.tally.saw_marked_weight(weight(letters), subject.t());
-        }
-        let call = Call::DecodeMarked;
-        judge.asked = format!("{}\n{}", text(marks), text(characters));
-        for (way_of_marks, start_of_marks) in starts(lent_marks, side_of_marks) {
-            for (way, start) in starts(lent, side) {
-                let [len, len_of_marks] = [lent, lent_marks].map(<[u8]>::len);
-                let writing = Writing {
-                    call,
-                    needed: judge.some_room(subject.is_within(), subject.record.n),
-                    expected: &|out| subject.decode_marked(&found, out),
-                    raw: &|out, room| unsafe {
-                        calls::reinoften_decode_marked(
-                            *code,
-                            start_of_marks,
-                            len_of_marks,
-                            start,
-                            len,
-                            out,
-                            room,
-                        )
-                    },
-                    wrapped: &|out| code.decode_marked(lent_marks, lent, out),
-                };
-                judge.tally.saw_way(call, way);
-                judge.tally.saw_way(call, of_marks(way_of_marks));
-                judge.write(&writing, rooms);
-            }
         }
     }
 
@@ -383,14 +323,6 @@ fn starts(bytes: &[u8], side: Side) -> Vec<(Way, *const u8)> {
         starts.push((Way::Nowhere, ptr::null()));
     }
     starts
-}
-
-/// The way in which marks are lent, beside that of a syndrome.
-fn of_marks(way: Way) -> Way {
-    match way {
-        Way::Lying(side) => Way::MarksLying(side),
-        _ => Way::MarksNowhere,
-    }
 }
 
 /// The byte that stands there before a call. It differs from place to place, so that bytes cannot change places

@@ -5,7 +5,7 @@ use independent::admission::Fault;
 use independent::decoding::{Decoded, Decoder};
 use independent::group::canonical_text;
 use independent::record::{put, Pauli, Record};
-use independent::sheet::{Letter, Refusal, Row, Sheet};
+use independent::sheet::{Refusal, Row, Sheet};
 use reinoften::calls::{Answer, Correction, Reading, DONE, NONE};
 use reinoften::{Code, ErrorPair, RefusedSheet};
 
@@ -134,27 +134,6 @@ impl Subject {
     pub fn decode(&self, characters: &[u8], out: &mut [u8]) -> Outcome {
         let decoded = self.decoder.decode(characters, out)?;
         Ok((decoded == Decoded::Correction).then_some(self.record.n))
-    }
-
-    /// What is found for marks and a syndrome, or the fault of one of them or of the record. To be written by
-    /// `decode_marked`, into any number of buffers.
-    pub fn marked(&self, marks: &[u8], characters: &[u8]) -> Result<Option<Vec<Letter>>, Refusal> {
-        self.decoder.marked(marks, characters)
-    }
-
-    pub fn decode_marked(
-        &self,
-        found: &Result<Option<Vec<Letter>>, Refusal>,
-        out: &mut [u8],
-    ) -> Outcome {
-        let found = found.as_ref().map_err(|refusal| *refusal)?;
-        let decoded = self.decoder.write(found, out)?;
-        Ok((decoded == Decoded::Correction).then_some(self.record.n))
-    }
-
-    /// How many struck qubits are corrected without marks.
-    pub fn t(&self) -> usize {
-        self.record.d.saturating_sub(1) / 2
     }
 
     /// 15, then 16, then the correction.

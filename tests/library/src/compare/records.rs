@@ -2,13 +2,10 @@
 
 use super::calls::Comparison;
 use super::expected::Subject;
-use super::tally::Room;
 use independent::decoding::{mask, read_syndrome};
-use independent::marks::Marks;
 use independent::random::Random;
 use independent::record::{Pauli, Record};
-use independent::sheet::Row;
-use independent::syndromes::{any_bits, every_bits, light_error, off_form};
+use independent::syndromes::{any_bits, light_error, off_form};
 
 /// So many rows a family of a record has room for.
 const ROOM: usize = 32;
@@ -29,71 +26,14 @@ pub fn ask(comparison: &mut Comparison, random: &mut Random, name: &str, record:
         comparison.syndrome(&subject, error);
     }
     let right = [light, other, any].map(|error| syndrome_of(&subject, error));
-    let wrong = [(); 2].map(|()| one_off_form(random, counted.r));
+    let off_form = off_form(random, counted.r);
+    let wrong = [(); 2].map(|()| off_form[random.index(off_form.len())].clone());
     let any_bits = any_bits(random, counted.r);
     for characters in right.iter().chain([&any_bits]).chain(&wrong) {
         comparison.decode(&subject, characters);
     }
-    ask_marked(comparison, random, &subject, &counted);
     for mask in masks(random, counted.r, &right) {
         comparison.correct(&subject, mask);
-    }
-}
-
-/// As many marks as there may be and fewer, each with the syndrome of an error on them; with any bits, and with a
-/// syndrome that is off its form. And marks that are off their form or too many, with a syndrome that is right or not.
-fn ask_marked(
-    comparison: &mut Comparison,
-    random: &mut Random,
-    subject: &Subject,
-    counted: &Record,
-) {
-    let &Record { n, r, d, .. } = counted;
-    let counts = [d - 1, random.index(d), d + random.index(3)];
-    let [most, fewer, too_many] = counts.map(|count| Marks::any(random, n, count.min(n)));
-    let mut struck = |marks: &Marks| {
-        let (minus, letters) = (false, marks.any_string(random));
-        syndrome_of(subject, Pauli::of(&Row { minus, letters }))
-    };
-    let [right, other] = [&most, &fewer].map(&mut struck);
-    let [most, fewer, too_many] = [most, fewer, too_many].map(|marks| marks.text());
-    let wrong = one_off_form(random, r);
-    let wrong_marks = match random.below(2) {
-        0 => one_off_form(random, n),
-        _ => too_many,
-    };
-    let any_bits = any_bits(random, r);
-    let behind_wrong_marks = match random.below(2) {
-        0 => &wrong,
-        _ => &right,
-    };
-    let questions = [
-        (&most, &right),
-        (&fewer, &other),
-        (&most, &any_bits),
-        (&fewer, &wrong),
-        (&wrong_marks, behind_wrong_marks),
-    ];
-    for (marks, characters) in questions {
-        comparison.decode_marked(subject, marks, characters, &Room::ALL);
-    }
-}
-
-fn one_off_form(random: &mut Random, len: usize) -> Vec<u8> {
-    let characters = off_form(random, len);
-    characters[random.index(characters.len())].clone()
-}
-
-/// Every pattern of marks with every syndrome.
-pub fn ask_every_mark(comparison: &mut Comparison, name: &str, record: Record) {
-    comparison.case(format!("{name}\n{record:?}"));
-    let (n, r) = (record.n, record.r);
-    let subject = Subject::of(record);
-    let syndromes = every_bits(r);
-    for marks in Marks::every(n) {
-        for characters in &syndromes {
-            comparison.decode_marked(&subject, &marks.text(), characters, &[Room::Exact]);
-        }
     }
 }
 

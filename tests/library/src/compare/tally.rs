@@ -18,19 +18,17 @@ pub enum Call {
     Canonical,
     Syndrome,
     Decode,
-    DecodeMarked,
     Correct,
     Report,
 }
 
 impl Call {
-    const ALL: [Call; 8] = [
+    const ALL: [Call; 7] = [
         Call::ReadSheet,
         Call::WriteSheet,
         Call::Canonical,
         Call::Syndrome,
         Call::Decode,
-        Call::DecodeMarked,
         Call::Correct,
         Call::Report,
     ];
@@ -42,17 +40,13 @@ impl Call {
             Call::WriteSheet | Call::Syndrome => vec![0, 15, 17],
             Call::Canonical => vec![0, 6, 7, 8, 15, 17],
             Call::Decode => vec![0, 15, 16, 17, 255],
-            Call::DecodeMarked => vec![0, 15, 16, 17, 18, 19, 255],
             Call::Correct => vec![0, 15, 16, 255],
             Call::Report => vec![0, 17],
         }
     }
 
     fn reads(self) -> bool {
-        !matches!(
-            self,
-            Call::WriteSheet | Call::Canonical | Call::Syndrome | Call::Correct
-        )
+        matches!(self, Call::ReadSheet | Call::Decode | Call::Report)
     }
 
     fn writes(self) -> bool {
@@ -62,7 +56,7 @@ impl Call {
 
 /// The numbers that the text of a report can have; 0 stands for that of an admitted code.
 fn numbers_of_texts() -> Vec<u32> {
-    (0..=14).chain([16, 18, 19]).collect()
+    (0..=14).chain([16]).collect()
 }
 
 /// How long an output buffer is, beside what the answer needs.
@@ -97,10 +91,6 @@ pub enum Way {
     Lying(Side),
     /// with none, and no place where they would be
     Nowhere,
-    /// with marks beside them, that lie against a page
-    MarksLying(Side),
-    /// with no marks, and no place where they would be
-    MarksNowhere,
     /// with such a buffer to write into, that lies against a page
     Into(Room, Side),
 }
@@ -116,10 +106,6 @@ impl Way {
         if call.reads() {
             ways.extend(sides.map(Way::Lying));
             ways.push(Way::Nowhere);
-        }
-        if call == Call::DecodeMarked {
-            ways.extend(sides.map(Way::MarksLying));
-            ways.push(Way::MarksNowhere);
         }
         if call.writes() {
             let rooms = Room::ALL.into_iter();
@@ -140,10 +126,6 @@ pub struct Tally {
     sizes: BTreeSet<(usize, usize)>,
     /// of corrections
     weights: BTreeSet<u32>,
-    /// of corrections on marked qubits
-    marked_weights: BTreeSet<usize>,
-    /// how many of these are heavier than t
-    heavy: usize,
 }
 
 impl Tally {
@@ -180,11 +162,6 @@ impl Tally {
         self.weights.insert(weight);
     }
 
-    pub fn saw_marked_weight(&mut self, weight: usize, t: usize) {
-        self.marked_weights.insert(weight);
-        self.heavy += usize::from(weight > t);
-    }
-
     pub fn passed(&self) -> usize {
         self.passed
     }
@@ -215,11 +192,6 @@ impl Tally {
         missing.extend(sizes.map(|(n, r)| format!("a code of n={n} and r={r}")));
         let weights = (0..=3).filter(|weight| !self.weights.contains(weight));
         missing.extend(weights.map(|weight| format!("a correction of weight {weight}")));
-        let weights = (0..=4).filter(|weight| !self.marked_weights.contains(weight));
-        missing.extend(weights.map(|weight| format!("a marked correction of weight {weight}")));
-        if self.heavy == 0 {
-            missing.push("a marked correction heavier than t".to_string());
-        }
         if self.passed + self.failed < LEAST {
             missing.push(format!("so many as {LEAST} calls"));
         }
@@ -230,13 +202,13 @@ impl Tally {
 /// A line for each number, with how often each call answered it, and how often a report tells of it.
 impl Display for Tally {
     fn fmt(&self, to: &mut Formatter) -> fmt::Result {
-        let names = Call::ALL.map(|call| format!("{:>13}", format!("{call:?}")));
+        let names = Call::ALL.map(|call| format!("{:>11}", format!("{call:?}")));
         write!(to, "number{}   in reports", names.concat())?;
-        for number in (0..=19).chain([255]) {
+        for number in (0..=17).chain([255]) {
             write!(to, "\n{number:>6}")?;
             for call in Call::ALL {
                 let count = self.numbers.get(&(call, number));
-                write!(to, "{:>13}", shown(call.numbers().contains(&number), count))?;
+                write!(to, "{:>11}", shown(call.numbers().contains(&number), count))?;
             }
             let count = self.texts.get(&number);
             write!(
@@ -277,7 +249,6 @@ mod tests {
         }
         sizes().for_each(|size| tally.saw_size(size));
         (0..=3).for_each(|weight| tally.saw_weight(weight));
-        (0..=4).for_each(|weight| tally.saw_marked_weight(weight, 3));
         tally.passed = LEAST;
         tally
     }
@@ -303,12 +274,6 @@ mod tests {
         assert_eq!(size, ["a code of n=23 and r=22"]);
         let weight = without(|tally| tally.weights.remove(&3));
         assert_eq!(weight, ["a correction of weight 3"]);
-        let weight = without(|tally| tally.marked_weights.remove(&2));
-        assert_eq!(weight, ["a marked correction of weight 2"]);
-        let heavy = without(|tally| std::mem::take(&mut tally.heavy) == 1);
-        assert_eq!(heavy, ["a marked correction heavier than t"]);
-        let marks = without(|tally| tally.ways.remove(&(Call::DecodeMarked, Way::MarksNowhere)));
-        assert_eq!(marks, ["DecodeMarked, MarksNowhere"]);
         let mut fewer = whole();
         fewer.passed -= 1;
         assert_eq!(fewer.missing(), ["so many as 500000 calls"]);
@@ -332,15 +297,10 @@ mod tests {
     fn the_table_has_a_count_for_each_number_that_can_be() {
         let table = whole().to_string();
         let lines: Vec<&str> = table.lines().collect();
-        assert_eq!(lines.len(), 1 + 21);
+        assert_eq!(lines.len(), 1 + 19);
         let words = |line: usize| lines[line].split_whitespace().collect::<Vec<_>>();
-        let all = ["0", "1", "1", "1", "1", "1", "1", "1", "1", "1"];
-        assert_eq!(words(1), all);
-        let of_16 = ["16", "-", "-", "-", "-", "1", "1", "1", "-", "1"];
-        assert_eq!(words(17), of_16);
-        let of_19 = ["19", "-", "-", "-", "-", "-", "1", "-", "-", "1"];
-        assert_eq!(words(20), of_19);
-        let of_none = ["255", "-", "-", "-", "-", "1", "1", "1", "-", "-"];
-        assert_eq!(words(21), of_none);
+        assert_eq!(words(1), ["0", "1", "1", "1", "1", "1", "1", "1", "1"]);
+        assert_eq!(words(17), ["16", "-", "-", "-", "-", "1", "1", "-", "1"]);
+        assert_eq!(words(19), ["255", "-", "-", "-", "-", "1", "1", "-", "-"]);
     }
 }

@@ -17,40 +17,13 @@ pub extern "C" fn decode<W: Walk>(
     check_limits(&code)?;
     let want = read_syndrome(code.r, characters).ok_or(refusal(16, 0))?;
     let out = out.get_mut(..code.n).ok_or(refusal(17, 0))?;
-    Ok(put_letters(W::correct(&code, want), out))
-}
-
-/// The same on marked qubits.
-#[inline(never)]
-#[allow(improper_ctypes_definitions)]
-pub extern "C" fn decode_marked<W: Walk>(
-    code: Code,
-    marks: &[u8],
-    characters: &[u8],
-    out: &mut [u8],
-) -> Result<Option<usize>, Refusal> {
-    check_limits(&code)?;
-    let marks = read_syndrome(code.n, marks).ok_or(refusal(18, 0))?;
-    if marks.count_ones() as usize >= code.d {
-        return Err(refusal(19, 0));
-    }
-    let want = read_syndrome(code.r, characters).ok_or(refusal(16, 0))?;
-    let out = out.get_mut(..code.n).ok_or(refusal(17, 0))?;
-    let words = Words::of_syndromes(&code);
-    Ok(put_letters(
-        marked_correction::<W>(&words, marks, want),
-        out,
-    ))
-}
-
-/// The letters of what was found, a byte for each qubit.
-fn put_letters(found: Option<Masks>, out: &mut [u8]) -> Option<usize> {
-    let (a, b) = found?;
-    let n = out.len();
-    for (byte, letter) in out.iter_mut().zip(letters(n, a, b)) {
+    let Some((a, b)) = W::correct(&code, want) else {
+        return Ok(None);
+    };
+    for (byte, letter) in out.iter_mut().zip(letters(code.n, a, b)) {
         *byte = letter;
     }
-    Some(n)
+    Ok(Some(code.n))
 }
 
 /// The correction for a syndrome by value; or none.
@@ -75,24 +48,6 @@ pub fn walk<W: Walk>(code: &Code) -> W {
 /// No second word is 1, so no string is passed over.
 pub fn correction(walk: &impl Walk, syndrome: u32) -> Option<Masks> {
     walk.earliest(syndrome, 1)
-}
-
-/// The correction on marked qubits, by the words of all qubits.
-pub fn marked_correction<W: Walk>(words: &Words, marks: u32, syndrome: u32) -> Option<Masks> {
-    let walk = W::of(words.on_marked(marks), marks.count_ones() as usize);
-    let (a, b) = correction(&walk, syndrome)?;
-    Some((spread(marks, a), spread(marks, b)))
-}
-
-/// The bits of a mask for marked qubits at these qubits.
-fn spread(mut marks: u32, mut mask: u32) -> u32 {
-    let mut spread = 0;
-    while marks != 0 {
-        let lowest = marks & marks.wrapping_neg();
-        spread |= lowest * (mask & 1);
-        (marks, mask) = (marks ^ lowest, mask >> 1);
-    }
-    spread
 }
 
 /// The first character is the lowest bit.

@@ -1,9 +1,8 @@
 //! The report.
 
-use super::decoder::{correction, marked_correction, read_syndrome, walk};
+use super::decoder::{correction, read_syndrome, walk};
 use super::rows::ReducedRows;
 use super::walk::Walk;
-use super::words::Words;
 use super::{checks, letters, put, put_canonical, refusal, refused, sheet};
 use reinoften::{Code, Refusal, RefusedSheet};
 use std::io::Write;
@@ -18,19 +17,12 @@ fn account<W: Walk>(input: &[u8]) -> Result<Vec<u8>, RefusedSheet> {
     let read = sheet::read_lines(input).map_err(refused)?;
     let code = &read.code;
     let rows = checks::check::<W>(code, read.claim_line)?;
-    let asked = asked(code, read.behind, read.claim_line).map_err(refused)?;
-    let mut text = of_code(code, &rows, asked.len());
+    let syndromes = syndromes(code.r, read.behind, read.claim_line);
+    let syndromes = syndromes.map_err(refused)?;
+    let mut text = of_code(code, &rows, syndromes.len());
     let walk = walk::<W>(code);
-    let mut words = None;
-    for Asked { marks, syndrome } in asked {
-        let found = match marks {
-            Some(marks) => {
-                let words = words.get_or_insert_with(|| Words::of_syndromes(code));
-                marked_correction::<W>(words, marks, syndrome)
-            }
-            None => correction(&walk, syndrome),
-        };
-        match found {
+    for syndrome in syndromes {
+        match correction(&walk, syndrome) {
             Some((a, b)) => {
                 text.extend(b"c=");
                 text.extend(letters(code.n, a, b));
@@ -42,41 +34,15 @@ fn account<W: Walk>(input: &[u8]) -> Result<Vec<u8>, RefusedSheet> {
     Ok(text)
 }
 
-/// A syndrome, and the marks before it.
-struct Asked {
-    marks: Option<u32>,
-    syndrome: u32,
-}
-
-/// The checks 16, 18 and 19.
-fn asked(code: &Code, behind: &[u8], claim_line: usize) -> Result<Vec<Asked>, Refusal> {
-    let Code { n, r, d, .. } = *code;
-    let mut asked = Vec::with_capacity(behind.len() / (r + 3));
-    let (mut rest, mut at) = (behind, claim_line + 1);
-    while !rest.is_empty() {
-        let mut marks = None;
-        if rest.starts_with(b"l=") {
-            let (mask, behind) = read_line(b"l=", n, rest).ok_or(refusal(18, at))?;
-            if !behind.starts_with(b"s=") {
-                return Err(refusal(18, at));
-            }
-            if mask.count_ones() as usize >= d {
-                return Err(refusal(19, at));
-            }
-            (marks, rest, at) = (Some(mask), behind, at + 1);
-        }
-        let (syndrome, behind) = read_line(b"s=", r, rest).ok_or(refusal(16, at))?;
-        asked.push(Asked { marks, syndrome });
-        (rest, at) = (behind, at + 1);
-    }
-    Ok(asked)
-}
-
-/// The mask of a line of so many characters, and what is behind the line.
-fn read_line<'a>(key: &[u8], len: usize, rest: &'a [u8]) -> Option<(u32, &'a [u8])> {
-    let (line, behind) = rest.split_at_checked(len + 3)?;
-    let characters = line.strip_prefix(key)?.strip_suffix(b"\n")?;
-    Some((read_syndrome(len, characters)?, behind))
+/// Check 16.
+fn syndromes(r: usize, behind: &[u8], claim_line: usize) -> Result<Vec<u32>, Refusal> {
+    let read = |(at, line): (usize, &[u8])| {
+        let characters = { line.strip_prefix(b"s=") }.and_then(|line| line.strip_suffix(b"\n"));
+        let syndrome = characters.and_then(|characters| read_syndrome(r, characters));
+        syndrome.ok_or(refusal(16, claim_line + 1 + at))
+    };
+    let lines = behind.chunks(r + 3).enumerate();
+    lines.map(read).collect()
 }
 
 /// The lines before the corrections, with room for so many of these.

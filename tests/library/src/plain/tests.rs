@@ -1,6 +1,5 @@
 use super::*;
 use independent::decoding::{Decoded, Decoder};
-use independent::marks::Marks;
 use independent::random::Random;
 use independent::record::{self, Record, LAST_CHANGE};
 use independent::{admission, codes, published, reports, samples, sheet as sheets};
@@ -142,38 +141,6 @@ fn syndromes_are_decoded() {
         for decode in [decode::<Scan>, decode::<Table>] {
             let mut out = vec![b'.'; room];
             assert_eq!(decode(code(&record), &characters, &mut out), expected);
-            assert_eq!(out, expected_out);
-        }
-        outcomes[outcome(&expected)] += 1;
-    }
-    assert!(outcomes.iter().all(|&count| count > 20), "{outcomes:?}");
-}
-
-#[test]
-fn syndromes_with_marks_are_decoded() {
-    let mut random = Random(65);
-    let mut outcomes = [0; 7];
-    for n in (2..=24).flat_map(|n| [n; 60]) {
-        let record = any_record(&mut random, n);
-        let len = record.r.min(n) + random.index(9) / 8;
-        let characters: Vec<u8> = (0..len).map(|_| random.pick(b"00001")).collect();
-        let count = random.index(record.d + 1).min(n);
-        let mut marks = Marks::any(&mut random, n, count).text();
-        marks.truncate(n - random.index(9) / 8);
-        let room = n - random.index(9) / 8;
-        let mut expected_out = vec![b'.'; room];
-        let decoder = Decoder::of(&record);
-        let expected = match decoder.decode_marked(&marks, &characters, &mut expected_out) {
-            Ok(Decoded::Correction) => Ok(Some(n)),
-            Ok(Decoded::None) => Ok(None),
-            Err(refusal) => Err(plain_refusal(refusal)),
-        };
-        for decode in [decode_marked::<Scan>, decode_marked::<Table>] {
-            let mut out = vec![b'.'; room];
-            assert_eq!(
-                decode(code(&record), &marks, &characters, &mut out),
-                expected
-            );
             assert_eq!(out, expected_out);
         }
         outcomes[outcome(&expected)] += 1;

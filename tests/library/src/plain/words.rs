@@ -37,21 +37,7 @@ impl Words {
         }
     }
 
-    /// The first words of the marked qubits alone.
-    pub fn on_marked(&self, marks: u32) -> Words {
-        let marked = (0..self.qubits).filter(|&right| marks >> (self.qubits - 1 - right) & 1 == 1);
-        let mut first = [0; 72];
-        for (letters, right) in first.chunks_exact_mut(3).zip(marked) {
-            letters.copy_from_slice(&self.first[3 * right..][..3]);
-        }
-        Words {
-            qubits: marks.count_ones() as usize,
-            first,
-            second: [0; 72],
-        }
-    }
-
-    /// The syndromes, with what the reduced rows leave of each letter for second words.
+    /// The same, with what the reduced rows leave of each letter for second words.
     pub fn of_logical_errors(code: &Code, rows: &ReducedRows) -> Words {
         let mut words = Words::of_syndromes(code);
         let left = rows.left_of_columns();

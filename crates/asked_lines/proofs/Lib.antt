@@ -1,4 +1,0 @@
-pub mod Reading
-pub mod View
-pub mod Checking
-pub mod InReports

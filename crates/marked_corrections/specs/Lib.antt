@@ -1,3 +1,0 @@
--- What the contracts of the marked corrections by value cite, and what is stated of them.
-pub mod MarkedCorrections
-pub mod Statements

@@ -1,4 +1,0 @@
-pub mod Spreading
-pub mod MarkedSums
-pub mod Picking
-pub mod Putting
