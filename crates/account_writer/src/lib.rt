@@ -1,5 +1,7 @@
 // The writer of a code's account in a report: its numbers, its canonical generators, and the corrections for the
 // syndromes behind its sheet. The words of the code's letters are made once for all syndromes.
+#![tactic(auto)]
+
 ghost use Rattle.std.specs.Prelude.{◌≡◌, ◌≤◌, leb, length};
 ghost use Rattle.code_record.specs.Record.{most_qubits};
 ghost use Rattle.sheet.specs.Text.{laid};

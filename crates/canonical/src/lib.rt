@@ -1,4 +1,6 @@
 // The canonical generators of a record as text: an `h=` line for each.
+#![tactic(auto)]
+
 ghost use Rattle.std.specs.Prelude.{◌≡◌};
 ghost use Rattle.stabilizer.specs.Canonical.{write_canonical};
 

@@ -1,4 +1,6 @@
 // Checks 11 to 13: a record's claimed logical w, with the canonical generators that were found before.
+#![tactic(auto)]
+
 ghost use Rattle.std.specs.Prelude.{◌≡◌};
 ghost use Rattle.refusals.specs.Refusals.{checked_refusal};
 ghost use Rattle.claim_checks.specs.Claim.{claim_fault};

@@ -1,4 +1,6 @@
 // The line of w, which ends a sheet, and the record of all that was read.
+#![tactic(auto)]
+
 ghost use Rattle.std.specs.Prelude.{◌≡◌};
 ghost use Rattle.sheet.specs.Reader.{answered};
 ghost use Rattle.claim_reader.specs.Claim.{claim_after};

@@ -1,6 +1,8 @@
 // The checks 6 to 14 of a record, each made where those before it passed. One elimination, of 6 to 8, gives the
 // canonical generators for 13 and 14. The checks of any record hand them out, for what is said of one that passes; the
 // checks of a record that was read do not, since that would copy them.
+#![tactic(auto)]
+
 ghost use Rattle.std.specs.Prelude.{◌≡◌};
 ghost use Rattle.refusals.specs.Refusals.{checked_refusal, ◌then◌};
 ghost use Rattle.claim_checks.specs.Claim.{claim_fault};

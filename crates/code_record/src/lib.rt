@@ -1,4 +1,6 @@
 // The record of a code, its sizes, and the answer of the calls that read it.
+#![tactic(auto)]
+
 ghost use Rattle.std.specs.Prelude.{◌≡◌, get_or};
 ghost use Rattle.pauli.specs.Product.{identity};
 ghost use Rattle.refusals.specs.declared.Lines.TheVariants.{Refused};
@@ -45,7 +47,7 @@ pub fn most_generators(n: usize) -> usize
 // generators, the first rows of x and of z the pairs of logical operators, and w is the claimed minimum-weight logical.
 // Unused rows are +I.
 #[repr(C)]
-#[derive(Drop)]
+#[derive(Clone, Copy)]
 pub struct Code {
     pub n: usize,
     pub r: usize,
@@ -97,7 +99,7 @@ impl Code {
 
 // An enum holds no array, so the record stands beside the answer: all numbers 0 and all rows +I where it is a refusal.
 // `claim_at` is the line that w stands on, 0 where it is a refusal.
-#[derive(Drop)]
+#[derive(Clone, Copy)]
 pub struct LinesReading {
     pub answer: Lines,
     pub claim_at: usize,

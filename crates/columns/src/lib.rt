@@ -1,6 +1,8 @@
 // The columns of a row, read as bits a1..an, b1..bn: where its first one stands, whether a mask has a one at all, how a
 // row is cleared by another, and the phase that it then gets. This is what an elimination does most. So the X part and
 // the Z part are told apart by branches, and no column is computed where a bit is tested.
+#![tactic(auto)]
+
 ghost use Rattle.std.specs.Prelude.{◌≡◌, ◌/◌, ◌%◌, ◌^◌, eqb, ltb};
 ghost use Rattle.pauli.specs.Masks.{bits};
 ghost use Rattle.pauli.specs.Product.{identity, modulo4, same_masks};

@@ -1,4 +1,6 @@
 // Check 6 over the generators of a record, which are compared two by two: each has to commute with those before it.
+#![tactic(auto)]
+
 ghost use Rattle.std.specs.Prelude.{[], ◌≡◌, take};
 ghost use Rattle.code_record.specs.Record.{first_generator_at};
 ghost use Rattle.refusals.specs.Refusals.{checked_refusal};

@@ -1,5 +1,7 @@
 // A cycle of error correction, from a sheet's bytes to the letters of a correction: the reading, the syndrome call and
 // the decode call, one after the other. What the third guarantee says of errors stands in its contract.
+#![tactic(auto)]
+
 ghost use Rattle.std.specs.Prelude.{◌≡◌};
 ghost use Rattle.decoder.specs.EndToEnd.{cycle, Guaranteed};
 ghost use Rattle.correction_cycle.specs.Zeros.{zeros};

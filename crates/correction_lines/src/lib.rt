@@ -1,4 +1,6 @@
 // How much room the corrections of a report's `s=` lines need.
+#![tactic(auto)]
+
 ghost use Rattle.std.specs.Prelude.{◌≡◌, ◌≤◌, leb, length};
 ghost use Rattle.code_record.specs.Record.{most_qubits};
 ghost use Rattle.correction_writer.specs.Lines.{correction_text};

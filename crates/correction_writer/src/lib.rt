@@ -1,4 +1,6 @@
 // The writer of one correction's line in a report.
+#![tactic(auto)]
+
 ghost use Rattle.std.specs.Prelude.{◌≡◌};
 ghost use Rattle.correction_writer.specs.Lines.{write_correction};
 

@@ -1,4 +1,6 @@
 // Corrections by value: the earliest error of weight at most t with a syndrome, which is given as a mask.
+#![tactic(auto)]
+
 ghost use Rattle.std.specs.Prelude.{◌≡◌};
 ghost use Rattle.code_record.specs.Record.{radius};
 ghost use Rattle.letter_sums.specs.Sums.{words_in};
@@ -12,7 +14,7 @@ use pauli::Pauli;
 use search::earliest;
 
 // The correction for a syndrome, with sign +; or none, where no error of weight at most t has the syndrome.
-#[derive(Drop)]
+#[derive(Clone, Copy)]
 pub enum Correction {
     Found(Pauli),
     None,

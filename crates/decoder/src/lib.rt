@@ -1,8 +1,10 @@
 // The decoder: syndromes and corrections.
+#![tactic(auto)]
+
 use refusals::Refusal;
 
 // The syndrome stands in the output buffer, or the call was refused.
-#[derive(Drop)]
+#[derive(Clone, Copy)]
 pub enum SyndromeAnswer {
     Given,
     Refused(Refusal),
@@ -10,7 +12,7 @@ pub enum SyndromeAnswer {
 
 // The correction stands in the output buffer; or no error of weight at most t has the syndrome; or the call was
 // refused.
-#[derive(Drop)]
+#[derive(Clone, Copy)]
 pub enum Decoded {
     Correction,
     None,

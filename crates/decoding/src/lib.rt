@@ -1,4 +1,6 @@
 // The decode call: characters of a syndrome in, letters of its correction out.
+#![tactic(auto)]
+
 ghost use Rattle.std.specs.Prelude.{◌≡◌};
 ghost use Rattle.decoder.specs.Correction.{decode};
 ghost use Rattle.decoding.specs.Letters.{letters_decoded};
@@ -13,7 +15,7 @@ use syndrome_reader::{SyndromeRead, read_syndrome};
 
 // So many letters of the correction stand in the output buffer; or no error of weight at most t has the syndrome; or
 // the call was refused.
-#[derive(Drop)]
+#[derive(Clone, Copy)]
 pub enum LettersDecoded {
     Count(usize),
     None,

@@ -1,5 +1,7 @@
 // Check 14: whether a logical error is lighter than the claimed distance, with the canonical generators that were found
 // before.
+#![tactic(auto)]
+
 ghost use Rattle.std.specs.Prelude.{◌≡◌, ◌-◌};
 ghost use Rattle.refusals.specs.Refusals.{checked_refusal};
 ghost use Rattle.distance.specs.Search.{distance_by};

@@ -1,5 +1,7 @@
 // Elimination on the generators of a record: they become rows in reduced echelon form, up to the first that depends on
 // those before it. 7 and 8 and the canonical generators follow from it; 15 and 6 come before them.
+#![tactic(auto)]
+
 ghost use Rattle.std.specs.Prelude.{true, [], ◌≡◌, take};
 ghost use Rattle.std.proofs.Math.Option.{none, some};
 ghost use Rattle.refusals.specs.declared.Checked.TheVariants.{Passed};
@@ -21,7 +23,7 @@ use reduced_rows::{Kind, ReducedRows, kind_of};
 use refusals::{Checked, Family, Refusal};
 
 // The answer of the checks, and beside it the canonical generators; none of them where it is a refusal.
-#[derive(Drop)]
+#[derive(Clone, Copy)]
 pub struct Elimination {
     pub answer: Checked,
     pub reduced: ReducedRows,

@@ -1,4 +1,6 @@
 // The writer of the lines of all rows of a record, family by family.
+#![tactic(auto)]
+
 ghost use Rattle.std.specs.Prelude.{◌≡◌, ◌≤◌, length};
 ghost use Rattle.code_record.specs.Record.{most_qubits};
 ghost use Rattle.sheet.specs.Text.{laid};

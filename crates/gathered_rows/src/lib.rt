@@ -1,4 +1,6 @@
 // The lines of a family's rows, one after the other, until one is off its form.
+#![tactic(auto)]
+
 ghost use Rattle.std.specs.Prelude.{◌≡◌, min};
 ghost use Rattle.code_record.specs.Record.{row_room};
 ghost use Rattle.refusals.specs.Families.{row_key};
@@ -10,7 +12,7 @@ use refusals::Family;
 use row_reader::RowRead;
 
 // Rows, how many they are, and the byte behind their lines.
-#[derive(Drop)]
+#[derive(Clone, Copy)]
 pub struct Gathered {
     pub end: usize,
     pub count: usize,

@@ -1,4 +1,6 @@
 // The writer of the lines of n, k, d and t, with which a report's account of a code begins.
+#![tactic(auto)]
+
 ghost use Rattle.std.specs.Prelude.{◌≡◌, ◌≤◌, length};
 ghost use Rattle.sheet.specs.Text.{laid};
 ghost use Rattle.header_writer.specs.Header.{header_text, write_header};

@@ -1,4 +1,6 @@
 // Elimination: rows are added one by one to rows in reduced echelon form, as long as they are independent.
+#![tactic(auto)]
+
 ghost use Rattle.std.specs.Prelude.{[], ◌≡◌, take};
 ghost use Rattle.reduced_rows.specs.Rows.{reduced_of};
 ghost use Rattle.independent_rows.specs.Rows.{independent_rows};

@@ -1,5 +1,7 @@
 // The words of a code's letters, by which the search goes through its errors: each letter at each qubit has its
 // syndrome as a mask. A letter by itself with a given syndrome is found without words.
+#![tactic(auto)]
+
 ghost use Rattle.std.specs.Prelude.{cond, ◌≡◌, ◌+◌, ◌*◌, ◌/◌, ◌%◌, ◌^◌, ◌<◌, min, eqb};
 ghost use Rattle.code_record.specs.Record.{generators};
 ghost use Rattle.letter_sums.specs.Sums.{qubit_room, found_as};
@@ -74,7 +76,7 @@ pub fn syndrome_words(code: Code) -> LetterWords
 }
 
 // The qubits at which X, Y and Z by themselves have a syndrome, each set as a mask.
-#[derive(Drop)]
+#[derive(Clone, Copy)]
 struct LetterSets {
     x: u32,
     y: u32,

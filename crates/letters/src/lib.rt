@@ -1,11 +1,13 @@
 // Letters and signs: their bits and phases, and the bytes that they are written as.
+#![tactic(auto)]
+
 ghost use Rattle.std.specs.Prelude.{◌≡◌, ◌%◌};
 ghost use Rattle.letters.specs.Letters.{letter_at, x_bit, z_bit, struck_letter};
 ghost use Rattle.letters.specs.Letters.{letter_byte, read_letter, letter_in};
 ghost use Rattle.letters.specs.Letters.{sign_phase, sign_byte, read_sign, sign_in};
 
 // A letter of a qubit.
-#[derive(Drop)]
+#[derive(Clone, Copy)]
 pub enum Letter {
     I,
     X,
@@ -14,7 +16,7 @@ pub enum Letter {
 }
 
 // What a byte is read as.
-#[derive(Drop)]
+#[derive(Clone, Copy)]
 pub enum LetterRead {
     Got(Letter),
     NotALetter,
@@ -92,13 +94,13 @@ impl Letter {
 }
 
 // The sign of a row.
-#[derive(Drop)]
+#[derive(Clone, Copy)]
 pub enum Sign {
     Plus,
     Minus,
 }
 
-#[derive(Drop)]
+#[derive(Clone, Copy)]
 pub enum SignRead {
     Got(Sign),
     NotASign,

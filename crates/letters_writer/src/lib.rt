@@ -1,4 +1,6 @@
 // The writer of letters, one for each byte that it is lent.
+#![tactic(auto)]
+
 ghost use Rattle.std.specs.Prelude.{◌≡◌, length};
 ghost use Rattle.pauli.specs.Letters.{letter_text};
 

@@ -1,4 +1,6 @@
 // The kinds of lines in a sheet and behind it, which their keys tell.
+#![tactic(auto)]
+
 ghost use Rattle.std.specs.Prelude.{◌≡◌};
 ghost use Rattle.letters.specs.Lists.{bytes};
 ghost use Rattle.refusals.specs.Families.{row_key};
@@ -8,7 +10,7 @@ ghost use Rattle.line_kinds.specs.LineKinds.{line_kind};
 use refusals::Family;
 
 // The kinds of lines, each told by its key.
-#[derive(Drop)]
+#[derive(Clone, Copy)]
 pub enum LineKind {
     Qubits,
     Distance,

@@ -1,5 +1,7 @@
 // What the parts of a sheet's line behind its key are read as: words, which are numbers or letters, and the line feed
 // at its end.
+#![tactic(auto)]
+
 ghost use Rattle.std.specs.Prelude.{◌≡◌, eqb, get_or};
 ghost use Rattle.letters.specs.Letters.{x_bit, z_bit, read_letter};
 ghost use Rattle.code_record.specs.Record.{most_qubits};
@@ -12,13 +14,13 @@ use letters::{Letter, LetterRead, Sign};
 use pauli::Pauli;
 
 // What bytes are read as.
-#[derive(Drop)]
+#[derive(Clone, Copy)]
 pub enum Number {
     Got(usize),
     NotANumber,
 }
 
-#[derive(Drop)]
+#[derive(Clone, Copy)]
 pub enum Letters {
     Got(Pauli),
     NotLetters,

@@ -1,5 +1,7 @@
 // The checks of a record's logicals: 9, then 10 (`logical_pairs`). The record goes by value, which copies it, so a
 // check reads the rows in loops of its own, which call nothing that takes the record.
+#![tactic(auto)]
+
 ghost use Rattle.std.specs.Prelude.{◌≡◌, ◌≤◌};
 ghost use Rattle.code_record.specs.Record.{most_qubits, qubit_fault};
 ghost use Rattle.refusals.specs.Refusals.{checked_refusal, ◌then◌};

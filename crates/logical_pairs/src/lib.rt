@@ -1,5 +1,7 @@
 // Check 10 over the logicals of a record, the x rows and then the z rows: partners anticommute, and all others commute.
 // The record goes by value, which copies it, so the rows are read in the loops themselves.
+#![tactic(auto)]
+
 ghost use Rattle.std.specs.Prelude.{◌≡◌, min};
 ghost use Rattle.code_record.specs.Record.{row_room};
 ghost use Rattle.logical_pairs.specs.FirstPlace.{first_unpaired};

@@ -1,5 +1,7 @@
 // The words by which the search finds a code's logical errors: beside its syndrome each letter at each qubit has what
 // the canonical generators leave of it.
+#![tactic(auto)]
+
 ghost use Rattle.std.specs.Prelude.{◌≡◌, ℕ, ◌<◌, min, get_or};
 ghost use Rattle.code_record.specs.Record.{row_room};
 ghost use Rattle.reduced_rows.specs.Rows.{rows_in};

@@ -1,4 +1,6 @@
 // The decode call by value: a syndrome as a mask in, its correction as a Pauli out.
+#![tactic(auto)]
+
 ghost use Rattle.std.specs.Prelude.{◌≡◌};
 ghost use Rattle.mask_decoding.specs.Masks.{decode_mask};
 
@@ -9,7 +11,7 @@ use record_limits::within_limits;
 use refusals::Refusal;
 
 // The correction, with sign +; or no error of weight at most t has the syndrome; or the call was refused.
-#[derive(Drop)]
+#[derive(Clone, Copy)]
 pub enum MaskDecoded {
     Correction(Pauli),
     None,

@@ -1,4 +1,6 @@
 // Membership in the group of a record's generators, with its sign.
+#![tactic(auto)]
+
 ghost use Rattle.std.specs.Prelude.{◌≡◌};
 ghost use Rattle.membership.specs.Answers.{kind_member, membership};
 
@@ -9,7 +11,7 @@ use reduced_rows::{Kind, kind_of};
 use refusals::{Checked, Refusal};
 
 // Whether some member of a record's group has given masks, and with which sign.
-#[derive(Drop)]
+#[derive(Clone, Copy)]
 pub enum Membership {
     Member(Sign),
     NotMember,

@@ -1,5 +1,7 @@
 // The readers of the lines of n and d. Each is lent the bytes that remain, and answers how many of them the line took,
 // or the refusal that ends the reading, with the number beside it.
+#![tactic(auto)]
+
 ghost use Rattle.std.specs.Prelude.{◌≡◌, List, ℕ, ◌≤◌};
 ghost use Rattle.sheet.specs.Reader.{stop, continue, qubit_digits, read_number, in_range, qubit_line, distance_line};
 ghost use Rattle.line_parts.specs.LineValues.{value_from};
@@ -23,7 +25,7 @@ fn line_number(s: &[u8], digits: usize) -> Number
 }
 
 // The answer of the reader of a line with a number, and the number, 0 beside a refusal.
-#[derive(Drop)]
+#[derive(Clone, Copy)]
 pub struct NumberLine {
     pub answer: Lines,
     pub number: usize,

@@ -1,4 +1,6 @@
 // The writer of a number: how many digits it has, and its line with any key.
+#![tactic(auto)]
+
 ghost use Rattle.std.specs.Prelude.{◌≡◌, ◌≤◌, length};
 ghost use Rattle.sheet.specs.Text.{laid, decimal};
 ghost use Rattle.number_writer.specs.Lines.{number_text, write_number};

@@ -1,5 +1,7 @@
 // The writer of the lines of two numbers, with any keys: those of n and d, with which a sheet begins, and those of a
 // report.
+#![tactic(auto)]
+
 ghost use Rattle.std.specs.Prelude.{◌≡◌, ◌-◌, ◌≤◌, length};
 ghost use Rattle.sheet.specs.Text.{laid};
 ghost use Rattle.number_writer.specs.Lines.{number_text};

@@ -1,5 +1,7 @@
 // The lines of a sheet from the g lines on, one after the other: g, x and z, and w. Each function reads one kind and
 // goes on with the next, or ends the reading with a refusal.
+#![tactic(auto)]
+
 ghost use Rattle.std.specs.Prelude.{◌≡◌, ◌+◌, ◌*◌, ◌≤◌, length};
 ghost use Rattle.code_record.specs.Record.{row_room, most_qubits, first_generator_at};
 ghost use Rattle.sheet.specs.Reader.{lines_after, answered};

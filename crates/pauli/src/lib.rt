@@ -1,4 +1,6 @@
 // Paulis with phase, by value, and the letters and signs that they are written as.
+#![tactic(auto)]
+
 ghost use Rattle.std.specs.Prelude.{◌≡◌};
 ghost use Rattle.pauli.specs.Letters.{letter_on, row_phase, row_of, has_sign, is_signed_row, sign_of};
 ghost use Rattle.pauli.specs.Product.{identity, product, symplectic, commutes, weight};
@@ -8,7 +10,7 @@ use letters::{Letter, Sign};
 // i^p D(a, b): the phase p is read modulo 4, a is the X part and b the Z part.
 // Qubit j is bit j - 1 of both masks.
 #[repr(C)]
-#[derive(Drop)]
+#[derive(Clone, Copy)]
 pub struct Pauli {
     pub p: u32,
     pub a: u32,

@@ -1,5 +1,7 @@
 // The calls for programs in C and Rust, which include/reinoften.h declares: each makes the call of the same work, and
 // answers in numbers.
+#![tactic(auto)]
+
 ghost use Rattle.std.specs.Prelude.{◌≡◌};
 ghost use Rattle.rack.specs.Calls.{read_call, sheet_call, canonical_call, syndrome_call, decode_call, correct_call};
 ghost use Rattle.rack.specs.Calls.{report_call};

@@ -1,5 +1,7 @@
 // The answers of calls as numbers, for programs in C: no enum crosses to them. The number of an answer tells what
 // happened: 0 for done, 1 to 17 for a refusal, 255 for `none`.
+#![tactic(auto)]
+
 ghost use Rattle.std.specs.Prelude.{◌≡◌};
 ghost use Rattle.std.proofs.Math.Option.{none};
 ghost use Rattle.refusals.specs.Refusals.{values};
@@ -19,7 +21,7 @@ pub const NONE: u32 = 255;
 // What every call answers: the number; of a refusal the line that it names and the byte of its row's key, 0 for none;
 // and the count of bytes written.
 #[repr(C)]
-#[derive(Drop)]
+#[derive(Clone, Copy)]
 pub struct Answer {
     pub number: u32,
     pub family: u32,
@@ -29,7 +31,7 @@ pub struct Answer {
 
 // A sheet's reading: beside 14 the two errors, beside every other answer two +I on 0 qubits; and the record.
 #[repr(C)]
-#[derive(Drop)]
+#[derive(Clone, Copy)]
 pub struct SheetAnswer {
     pub answer: Answer,
     pub errors: ErrorPair,
@@ -38,7 +40,7 @@ pub struct SheetAnswer {
 
 // A correction by value: beside a refusal and `none` it is +I.
 #[repr(C)]
-#[derive(Drop)]
+#[derive(Clone, Copy)]
 pub struct CorrectionAnswer {
     pub answer: Answer,
     pub correction: Pauli,

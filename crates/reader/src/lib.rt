@@ -1,5 +1,7 @@
 // The reader of a sheet's lines, with anything behind them. A reading answers how many bytes the lines took, or the
 // refusal that ended it.
+#![tactic(auto)]
+
 ghost use Rattle.std.specs.Prelude.{◌≡◌, ◌≤◌, length, drop};
 ghost use Rattle.code_record.specs.Record.{most_qubits};
 ghost use Rattle.sheet.specs.Reader.{sheet_lines, answered, lines_reading};

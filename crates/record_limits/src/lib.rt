@@ -1,5 +1,7 @@
 // Whether a record is within its limits: its numbers are in their ranges, its used rows are rows of n qubits and the
 // unused ones +I, and w has sign +.
+#![tactic(auto)]
+
 ghost use Rattle.std.specs.Prelude.{◌&&◌, ◌≡◌, ◌≤◌};
 ghost use Rattle.code_record.specs.Record.{most_qubits, most_distance, most_generators};
 ghost use Rattle.code_record.specs.Record.{between, on_qubits, is_row, is_claim, within_limits};

@@ -1,4 +1,6 @@
 // Rows in reduced echelon form: what they leave of a row, and what the row is to them.
+#![tactic(auto)]
+
 ghost use Rattle.std.specs.Prelude.{[], ◌≡◌};
 ghost use Rattle.stabilizer.specs.Canonical.{reduced, reduces_to_identity};
 ghost use Rattle.reduced_rows.specs.RowKinds.{kind_of};
@@ -9,7 +11,7 @@ use columns::{cleared, is_phase};
 use pauli::Pauli;
 
 // Rows of n qubits in reduced echelon form, the first `count` of the array; the others are +I.
-#[derive(Drop)]
+#[derive(Clone, Copy)]
 pub struct ReducedRows {
     pub n: u32,
     pub count: usize,
@@ -17,7 +19,7 @@ pub struct ReducedRows {
 }
 
 // What a row is to other rows: independent of them, or I with a sign once multiplied by a selection of them.
-#[derive(Drop)]
+#[derive(Clone, Copy)]
 pub enum Kind {
     Independent,
     PlusIdentity,

@@ -1,5 +1,7 @@
 // The writer of a refusal, as a report has it: the lines of its number and of the line named, and for 14 those of the
 // two errors.
+#![tactic(auto)]
+
 ghost use Rattle.std.specs.Prelude.{◌≡◌, ◌≤◌, length};
 ghost use Rattle.code_record.specs.Record.{most_qubits};
 ghost use Rattle.sheet.specs.Text.{laid};

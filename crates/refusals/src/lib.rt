@@ -1,4 +1,6 @@
 // The refusals with what each says, the families of rows that they name, and the answers that carry them.
+#![tactic(auto)]
+
 ghost use Rattle.std.specs.Prelude.{◌≡◌};
 ghost use Rattle.refusals.specs.Families.{key_byte};
 ghost use Rattle.refusals.specs.Refusals.{plain, of_row, values, answered_values, count_of};
@@ -7,7 +9,7 @@ use pauli::Pauli;
 
 // The three kinds of rows, each with its array in the record and its key in the sheet. A refusal about a row names its
 // kind.
-#[derive(Drop)]
+#[derive(Clone, Copy)]
 pub enum Family {
     Generator,
     LogicalX,
@@ -29,7 +31,7 @@ impl Family {
 
 // The two errors that refute a claimed distance, on n qubits.
 #[repr(C)]
-#[derive(Drop)]
+#[derive(Clone, Copy)]
 pub struct ErrorPair {
     pub n: usize,
     pub e: Pauli,
@@ -38,7 +40,7 @@ pub struct ErrorPair {
 
 // The refusals in the order of their numbers, 1 to 17. A case that names a line of the sheet holds it, and one about a
 // row its family too.
-#[derive(Drop)]
+#[derive(Clone, Copy)]
 pub enum Refusal {
     // 1: the whole input has more than 4,096 bytes.
     TooLong,
@@ -104,14 +106,14 @@ impl Refusal {
 }
 
 // The kind of the row that a refusal is about, where it is about one.
-#[derive(Drop)]
+#[derive(Clone, Copy)]
 pub enum RowFamily {
     Row(Family),
     NoRow,
 }
 
 // What a refusal says: its number, the line named, 0 for none, and the kind of its row.
-#[derive(Drop)]
+#[derive(Clone, Copy)]
 pub struct RefusalValues {
     pub number: u32,
     pub line: usize,
@@ -143,21 +145,21 @@ impl RefusalValues {
 }
 
 // One or more lines of a sheet were read, and took so many bytes; or they were refused.
-#[derive(Drop)]
+#[derive(Clone, Copy)]
 pub enum Lines {
     Read { used: usize },
     Refused(Refusal),
 }
 
 // The answer of checks: they passed, or this is their first fault.
-#[derive(Drop)]
+#[derive(Clone, Copy)]
 pub enum Checked {
     Passed,
     Refused(Refusal),
 }
 
 // What a call answers that writes text into an output buffer: the count of bytes written, or a refusal.
-#[derive(Drop)]
+#[derive(Clone, Copy)]
 pub enum Written {
     Count(usize),
     Refused(Refusal),

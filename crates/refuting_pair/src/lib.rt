@@ -1,4 +1,6 @@
 // The two errors of refusal 14, from the masks of the logical error that refutes a claimed distance.
+#![tactic(auto)]
+
 ghost use Rattle.std.specs.Prelude.{◌≡◌};
 ghost use Rattle.pauli.specs.Letters.{letters_at};
 ghost use Rattle.admission.specs.Distance.{refuting_pair};

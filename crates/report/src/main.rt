@@ -1,4 +1,6 @@
 // The program: a sheet and its syndromes on standard input, their report on standard output.
+#![tactic(auto)]
+
 ghost use Rattle.std.specs.Prelude.{◌≡◌, ◌≤◌, length, take};
 ghost use Rattle.reporting.specs.Report.{longest_report, report_text};
 ghost use Rattle.report.specs.Input.{Within};
@@ -7,7 +9,7 @@ use libc::{STDIN_FILENO, STDOUT_FILENO};
 use report_writer::write_report;
 
 // What was read: so many bytes, up to the end of the input or of the buffer; or a read failed.
-#[derive(Drop)]
+#[derive(Clone, Copy)]
 enum Input {
     Got(usize),
     Failed,

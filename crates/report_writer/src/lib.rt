@@ -1,4 +1,6 @@
 // The report's call: the bytes of a sheet and its syndromes, to the bytes of a report.
+#![tactic(auto)]
+
 ghost use Rattle.std.specs.Prelude.{◌≡◌, ◌+◌, ◌<◌, ◌^◌, length};
 ghost use Rattle.reporting.specs.Report.{write_report};
 ghost use Rattle.reporting.specs.Statements.{GuaranteedReport};

@@ -1,5 +1,7 @@
 // The readers of the lines with letters, of a signed row and of w. Each is lent the bytes that remain, and does not
 // know on which line they begin.
+#![tactic(auto)]
+
 ghost use Rattle.std.specs.Prelude.{◌≡◌, ◌≤◌};
 ghost use Rattle.code_record.specs.Record.{most_qubits};
 ghost use Rattle.refusals.specs.Families.{row_key};
@@ -30,7 +32,7 @@ fn line_letters(s: &[u8], from: usize, n: usize) -> Letters
 }
 
 // What a line is read as: a row, and how many bytes the line took.
-#[derive(Drop)]
+#[derive(Clone, Copy)]
 pub enum RowRead {
     Got { used: usize, row: Pauli },
     OffForm,

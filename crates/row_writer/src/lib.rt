@@ -1,5 +1,7 @@
 // The writers of one row's line: with its sign, as the rows of a sheet and of its canonical generators have it; and
 // without, as w has it and every error and correction.
+#![tactic(auto)]
+
 ghost use Rattle.std.specs.Prelude.{◌≡◌, ◌≤◌, ◌<◌, length};
 ghost use Rattle.code_record.specs.Record.{most_qubits, between};
 ghost use Rattle.sheet.specs.Text.{laid};

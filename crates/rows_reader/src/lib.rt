@@ -1,5 +1,7 @@
 // The lines of a sheet's rows: the g lines, and the x and z lines. Each reader is lent the bytes that remain. It does
 // not know on which line they begin, so a refusal has the count of the lines before the one that is refused.
+#![tactic(auto)]
+
 ghost use Rattle.std.specs.Prelude.{◌≡◌, ◌*◌, ◌≤◌};
 ghost use Rattle.code_record.specs.Record.{row_room, pair_count};
 ghost use Rattle.sheet.specs.Reader.{generator_lines};
@@ -12,7 +14,7 @@ use pauli::Pauli;
 use refusals::Family;
 
 // Lines of rows were read, and took so many bytes; or one is refused, behind so many that were read.
-#[derive(Drop)]
+#[derive(Clone, Copy)]
 pub enum RowsAnswer {
     Read { used: usize },
     // the line is off its form, or missing
@@ -22,7 +24,7 @@ pub enum RowsAnswer {
 }
 
 // The answer of the reader of the g lines, the count of the generators and their rows; none beside a refusal.
-#[derive(Drop)]
+#[derive(Clone, Copy)]
 pub struct Rows {
     pub answer: RowsAnswer,
     pub count: usize,
@@ -73,7 +75,7 @@ pub fn generator_lines(s: &[u8], n: usize) -> Rows
 }
 
 // The answer of the reader of the x and z lines, and their rows; none beside a refusal.
-#[derive(Drop)]
+#[derive(Clone, Copy)]
 pub struct Logicals {
     pub answer: RowsAnswer,
     pub x: [Pauli; ROW_ROOM],

@@ -1,5 +1,7 @@
 // The writer of the lines of several rows with one key: the generators of a sheet, its logicals of each kind, the
 // canonical generators.
+#![tactic(auto)]
+
 ghost use Rattle.std.specs.Prelude.{◌≡◌, ◌≤◌, min, length, take};
 ghost use Rattle.code_record.specs.Record.{row_room, most_qubits};
 ghost use Rattle.sheet.specs.Text.{laid};

@@ -1,6 +1,8 @@
 // The search for the earliest string of letters whose first words sum to a wanted one and whose second words do not
 // sum to a shunned one, bit by bit. It knows nothing of codes: with syndromes as first words it finds a correction, and
 // with what is left of a letter by the group's rows as second words it finds a logical error.
+#![tactic(auto)]
+
 ghost use Rattle.std.specs.Prelude.{List, ◌≡◌, ℕ, ◌+◌, ◌*◌, ◌^◌, min, ◌≤◌, ◌<◌, length, take};
 ghost use Rattle.std.proofs.Math.Option.{none};
 ghost use Rattle.letters.specs.Letters.{struck_letter};

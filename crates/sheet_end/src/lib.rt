@@ -1,4 +1,6 @@
 // What stands behind the lines of a sheet: nothing where it is read by itself, or the part that a report reads next.
+#![tactic(auto)]
+
 ghost use Rattle.std.specs.Prelude.{◌≡◌};
 ghost use Rattle.sheet.specs.Reader.{form_reading, behind};
 

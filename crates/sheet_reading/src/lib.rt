@@ -1,4 +1,6 @@
 // The whole reading of a sheet that stands by itself: its lines, and then its checks.
+#![tactic(auto)]
+
 ghost use Rattle.std.specs.Prelude.{true, ◌≡◌};
 ghost use Rattle.code_record.specs.Record.{within_limits, limits_fault};
 ghost use Rattle.refusals.specs.Refusals.{◌then◌};

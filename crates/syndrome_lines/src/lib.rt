@@ -1,4 +1,6 @@
 // The reader of the lines of syndromes that stand behind a sheet in the input of a report.
+#![tactic(auto)]
+
 ghost use Rattle.std.specs.Prelude.{◌≡◌};
 ghost use Rattle.syndrome_lines.specs.SyndromeLines.{mask_line, checkLines};
 
@@ -24,7 +26,7 @@ pub fn read_syndrome_line(s: &[u8], r: usize) -> SyndromeRead
 }
 
 // All lines to the end were read; or one is off its form, behind so many that were read.
-#[derive(Drop)]
+#[derive(Clone, Copy)]
 pub enum SyndromeLines {
     Read,
     OffForm(usize),

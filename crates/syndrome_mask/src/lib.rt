@@ -1,4 +1,6 @@
 // The syndrome of a Pauli as a mask: which of the first rows of an array it anticommutes with.
+#![tactic(auto)]
+
 ghost use Rattle.std.specs.Prelude.{◌≡◌, min, take};
 ghost use Rattle.pauli.specs.Syndrome.{syndrome_mask};
 ghost use Rattle.code_record.specs.Record.{row_room};

@@ -1,11 +1,13 @@
 // The reader of a syndrome: characters 0 and 1, to a mask.
+#![tactic(auto)]
+
 ghost use Rattle.std.specs.Prelude.{[], ◌∷◌, ◌≡◌};
 ghost use Rattle.syndrome_reader.specs.Mask.{read_mask};
 
 use code_record::ROW_ROOM;
 
 // What characters are read as: a syndrome as a mask, the first generator's bit the lowest.
-#[derive(Drop)]
+#[derive(Clone, Copy)]
 pub enum SyndromeRead {
     Mask(u32),
     Malformed,

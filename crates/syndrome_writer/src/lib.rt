@@ -1,4 +1,6 @@
 // The writer of a syndrome: a character 0 or 1 for each generator of a record.
+#![tactic(auto)]
+
 ghost use Rattle.std.specs.Prelude.{◌≡◌, ◌≤◌, length, take};
 ghost use Rattle.pauli.specs.Product.{anticommutes};
 ghost use Rattle.pauli.specs.Syndrome.{syndrome};

@@ -3,6 +3,8 @@
 // written back, "l" for single lines of a sheet, "g" for the group of a sheet's generators, "a" for the admission of a
 // sheet, "c" for the checks of a record, "d" for syndromes and corrections of a record, "e" for the corrections of
 // errors on an admitted code, "r" for the report on a sheet and the lines behind it.
+#![tactic(auto)]
+
 mod admissions;
 mod decodings;
 mod groups;

@@ -7,7 +7,7 @@ use pauli::Pauli;
 use test_cases::{print, print_number};
 
 // The rows of a line up to some place: their product, and whether the last commutes with the product of the others.
-#[derive(Drop)]
+#[derive(Clone, Copy)]
 struct Line {
     product: Pauli,
     commutes: bool,

@@ -4,7 +4,7 @@ ghost use Rattle.std.specs.Prelude.{max, ◌≤◌, length};
 use letters::{Letter, LetterRead, Sign, SignRead};
 use pauli::Pauli;
 
-#[derive(Drop)]
+#[derive(Clone, Copy)]
 pub enum Row {
     Got { row: Pauli, width: u32 },
     NotARow,

@@ -6,7 +6,7 @@ use test_cases::{dots, one_less, print, print_buffer, print_written};
 
 // Of a record's sheet, of its n and d, of its rows, of its canonical generators, or of the line of a row, of its
 // letters or of a number by itself.
-#[derive(Drop)]
+#[derive(Clone, Copy)]
 pub enum Writer {
     Sheet,
     Numbers,

@@ -3,6 +3,8 @@
 // five digits, how many bytes follow; a line feed; and those bytes, a text. No contract says what comes from standard
 // input or goes to standard output: the language has no name for either. So a function that prints says nothing but
 // that it returns.
+#![tactic(auto)]
+
 mod output;
 mod record;
 mod row;
@@ -16,7 +18,7 @@ pub use record::changed;
 pub use row::{above, turned, with_bits};
 
 // A case's kind and change, and how many bytes of its text were read; or that there is no case.
-#[derive(Drop)]
+#[derive(Clone, Copy)]
 pub enum Case {
     Got { kind: u8, change: usize, len: usize },
     End,

@@ -1,4 +1,6 @@
 // The writer of a text that is given: the bytes that stand in every line of a kind, such as its key.
+#![tactic(auto)]
+
 ghost use Rattle.std.proofs.Math.Option.{none};
 ghost use Rattle.std.specs.Prelude.{◌≡◌, ◌≤◌, length};
 ghost use Rattle.sheet.specs.Text.{laid, written};

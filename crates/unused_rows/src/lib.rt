@@ -1,4 +1,6 @@
 // Whether rows are +I, as those of a record are that it does not use.
+#![tactic(auto)]
+
 ghost use Rattle.std.specs.Prelude.{◌&&◌, ◌≡◌};
 ghost use Rattle.pauli.specs.Product.{identity, same_pauli};
 ghost use Rattle.unused_rows.specs.Unused.{are_identities, all_bits};

@@ -1,5 +1,7 @@
 // A filter of words, for the last letter of a string in the search: it rules most strings out before their last letter
 // is looked for.
+#![tactic(auto)]
+
 ghost use Rattle.std.specs.Prelude.{◌≡◌, ◌*◌, min, take};
 ghost use Rattle.letter_sums.specs.Sums.{qubit_room};
 ghost use Rattle.word_filter.specs.Filter.{slot_of, first_places, may_end};

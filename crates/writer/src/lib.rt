@@ -1,5 +1,7 @@
 // The writer of a sheet. Each part of it has a call of its own, which is lent the output from the part's first byte
 // onward and answers how many bytes the part has.
+#![tactic(auto)]
+
 ghost use Rattle.std.specs.Prelude.{true, ◌≡◌, ◌≤◌, length};
 ghost use Rattle.code_record.specs.Record.{within_limits};
 ghost use Rattle.sheet.specs.Text.{laid};
