@@ -1,0 +1,74 @@
+-- The call answers as `writeCorrections` says: 15, 17 or the lines, as the tests go.
+use mathlib.Core.List.{List}
+use mathlib.Core.Logic.{inl, inr}
+use mathlib.Core.Path.{sym}
+use Prim.Native.Nat.{ℕ, ◌≤◌}
+use lib.ListN.{length}
+use Rattle.code_record.specs.Record.{most_qubits}
+use Rattle.code_record.proofs.Limits.{outside-between}
+use Rattle.code_record.proofs.Tests.{passed, failed}
+use Rattle.row_writer.proofs.Lines.{outside-limits, too_short, has_room}
+use Rattle.correction_lines.specs.CorrectionLines.{corrections_text}
+use Rattle.correction_lines.proofs.Fits.{fit-room, unfit-room}
+use Rattle.corrections_writer.specs.Corrections.{write_corrections}
+use borrow.Author.Rules.{rules}
+use Rattle.corrections_writer.proofs.write_corrections.Goals as goal
+use Rattle.corrections_writer.proofs.write_corrections.Goals.{After-corrections_fit, Else-not-corrections_fit, Start}
+
+pub returns-then-words-lt2 : goal.returns-then-words-lt2
+unfolding write_corrections
+returns-then-words-lt2 c =
+    let a = c.args in
+    outside-limits a.words.qubits (corrections_text a.words a.t a.r a.syndromes.now) a.out-1.now
+    (outside-between 2 most_qubits a.words.qubits (inl (search rules)))
+
+pub returns-then-words-gt-MOST_QUBITS : goal.returns-then-words-gt-MOST_QUBITS
+unfolding write_corrections
+returns-then-words-gt-MOST_QUBITS c =
+    let a = c.args in
+    outside-limits a.words.qubits (corrections_text a.words a.t a.r a.syndromes.now) a.out-1.now
+    (outside-between 2 most_qubits a.words.qubits (inr (search rules)))
+
+-- ---- behind the two tests of the qubits
+module _ (c : After-corrections_fit) where
+  abbrev start : Start
+  start = c.before.before.before.before.before.before.before
+
+  abbrev text : List ℕ
+  text = corrections_text start.args.words start.args.t start.args.r start.args.syndromes.now
+
+  abbrev qubits : ℕ
+  qubits = start.args.words.qubits
+
+  bounds : (2 ≤ qubits) × (qubits ≤ most_qubits)
+  bounds = (search rules, search rules)
+
+room : (c : Else-not-corrections_fit) → length (text c.before) ≤ length (start c.before).args.out.now
+room c =
+    let a = (start c.before).args in
+    let b = bounds c.before in
+    fit-room a.words a.t a.r a.syndromes.now (length a.out-1.now) b.0 b.1
+    (sym (passed c.corrections_fit.ensures c.if-not-corrections_fit.false-raw))
+
+-- ---- the needs
+pub returns-then-not-corrections_fit : goal.returns-then-not-corrections_fit
+unfolding write_corrections
+returns-then-not-corrections_fit c =
+    let a = (start c.before).args in
+    let b = bounds c.before in
+    too_short (qubits c.before) (text c.before) a.out-1.now b.0 b.1
+    (unfit-room a.words a.t a.r a.syndromes.now (length a.out-1.now) b.0 b.1
+    (sym (failed c.corrections_fit.ensures c.if-not-corrections_fit.true-raw)))
+
+pub correction_lines-requires : goal.correction_lines-requires
+correction_lines-requires c =
+    let b = bounds c.before.before in (b.0, (b.1, room c.before))
+
+pub returns : goal.returns
+unfolding write_corrections
+returns c =
+    let call = c.before.before in
+    let passed = call.before.before in
+    let b = bounds passed.before in
+    has_room (qubits passed.before) (text passed.before) (start passed.before).args.out.now b.0 b.1
+    (room passed) call.correction_lines.ensures.0 call.correction_lines.ensures.1

@@ -1,0 +1,115 @@
+-- 10 is found at the first logical that pairs wrongly with an earlier one: the logicals are tried in turn, each with
+-- those before it in turn.
+use mathlib.Core.Bool.{Bool, ◌||◌, beq}
+use mathlib.Core.Logic.{⊎_elim}
+use mathlib.Core.Path.{◌≡◌, refl, ap, sym, ◌∙◌}
+use Prim.Native.Nat.{◌+◌, ◌-◌, ◌*◌, ◌<◌}
+use native.Mathlib.Omega.{arith}
+use lib.Dec.{eqb}
+use lib.ListN.{length, take, get_or}
+use Rattle.pauli.specs.Product.{identity, commutes}
+use Rattle.code_record.specs.declared.Code.{Code}
+use Rattle.code_record.proofs.ArrayLengths.{sized_of}
+use Rattle.admission.specs.Logicals.{logicals, pairs_wrongly}
+use Rattle.logical_pairs.proofs.LogicalPlaces.{known, logicals-length}
+use Rattle.logical_pairs.proofs.LogicalPlaces.{x-at, z-at, before-length}
+use Rattle.logical_pairs.specs.FirstPlace.{first_place, unpaired_at, first_unpaired}
+use Rattle.logical_pairs.proofs.FirstFault.{unpaired-told}
+use Rattle.logical_pairs.proofs.Places.{place_here, place-later, place_end}
+use Rattle.logical_pairs.proofs.Pairs.{WrongFrom, wrong-at, wrong-end}
+use Rattle.logical_pairs.proofs.first_unpaired.Goals as goal
+use Rattle.logical_pairs.proofs.first_unpaired.Goals.{After-commutes, At-loop-earlier, At-loop-place, In-loop-earlier}
+
+-- ---- an earlier logical
+abbrev at : At-loop-earlier → At-loop-place
+at c = c.before.before.before
+
+module _ (c : After-commutes) where
+  abbrev turn : In-loop-earlier
+  turn = c.before.before
+
+  abbrev tried : At-loop-earlier
+  tried = turn.before
+
+  abbrev code : Code
+  code = (at tried).args.t1
+
+  -- It stands before the place, and is one of the logicals.
+  inside : tried.loop-earlier.earlier < 2 * (at tried).x_count-xs.result
+  inside = omega (arith, turn.loop-earlier-test.taken, tried.loop-earlier.invariant.0.within)
+
+  row : c.if-earlier-xs.q ≡ get_or (logicals code) tried.loop-earlier.earlier identity
+  row =
+      let k = tried.loop-earlier.invariant.0.known in
+      ⊎_elim (λ w. w.2 ∙ x-at k tried.loop-earlier.earlier w.0.taken)
+      (λ w. w.2 ∙ z-at k tried.loop-earlier.earlier w.0.left inside) c.if-earlier-xs.branch
+
+  here : {t : Bool} → let pairs = (at tried).pair_count-pairs.result in
+      let place = (at tried).loop-place.place in
+      let earlier = tried.loop-earlier.earlier in
+      beq c.commutes.result (eqb (place - earlier) pairs) ≡ t
+      → (t || WrongFrom pairs place (earlier + 1) (logicals code) tried.if-place-xs.p)
+      ≡ pairs_wrongly pairs place 0 (take place (logicals code)) tried.if-place-xs.p
+  here test =
+      let inv = tried.loop-earlier.invariant in
+      let place = (at tried).loop-place.place in
+      let earlier = tried.loop-earlier.earlier in
+      let told = c.commutes.ensures ∙ ap (commutes tried.if-place-xs.p) row in
+      wrong-at _ place earlier (logicals code) tried.if-place-xs.p turn.loop-earlier-test.taken
+      (omega (arith, inside, logicals-length inv.0.known))
+      (ap (λ t. beq t (eqb (place - earlier) (at tried).pair_count-pairs.result)) (sym told) ∙ test)
+      ∙ inv.1
+
+-- ---- the needs
+pub loop-place-init : goal.loop-place-init
+unfolding first_unpaired
+loop-place-init c =
+    let s = c.before.before in
+    let code = s.args.t1 in
+    let k = known code (sized_of code s.well-formed.0) c.pair_count-pairs.ensures c.x_count-xs.ensures in
+    let all : 2 * c.x_count-xs.result - 0 ≡ length (logicals code) = omega (arith, logicals-length k) in
+    (k, ap (first_place (unpaired_at code) 0) all)
+
+pub loop-earlier-init : goal.loop-earlier-init
+loop-earlier-init c =
+    let loop = c.loop-place in
+    let within = c.loop-place-test.true in
+    let k = loop.invariant.0 in (
+      record {
+        known = k;
+        within = within;
+        row = ⊎_elim (λ w. w.2 ∙ x-at k loop.place w.0.taken)
+            (λ w. w.2 ∙ z-at k loop.place w.0.left within) c.if-place-xs.branch;
+      },
+      refl,
+    )
+
+pub returns-then-commutes-partner : goal.returns-then-commutes-partner
+returns-then-commutes-partner c =
+    let tried = tried c.before in
+    let logical = tried.loop-earlier.invariant.0 in
+    place_here (unpaired_at (code c.before)) (at tried).loop-place.place _
+    (unpaired-told logical (here c.before c.if-commutes-partner.true)) logical.within
+    ∙ (at tried).loop-place.invariant.1
+
+pub loop-earlier-preserved : goal.loop-earlier-preserved
+loop-earlier-preserved c = ((tried c.before).loop-earlier.invariant.0, here c.before c.if-commutes-partner.false)
+
+pub loop-place-preserved : goal.loop-place-preserved
+loop-place-preserved c =
+    let tried = c.before in
+    let inv = tried.loop-earlier.invariant in
+    let place = (at tried).loop-place.place in
+    let before = before-length inv.0.known place inv.0.within in (
+      inv.0.known,
+      place-later _ place _
+          (unpaired-told inv.0 (wrong-end _ place tried.loop-earlier.earlier _ _
+          (omega (arith, c.loop-earlier-test.false, before)) ∙ inv.1)) inv.0.within
+          ∙ (at tried).loop-place.invariant.1,
+    )
+
+pub returns : goal.returns
+returns c =
+    let loop = c.loop-place in
+    place_end (unpaired_at c.args.t1) loop.place _ c.loop-place-test.false
+    ∙ loop.invariant.1

@@ -1,0 +1,26 @@
+-- The answer of the call below, as numbers.
+use mathlib.Core.Path.{◌≡◌, refl, ap, ◌∙◌}
+use Prim.Native.Nat.{ℕ}
+use lib.ListN.{length}
+use Rattle.decoder.specs.declared.SyndromeAnswer.{SyndromeAnswer}
+use Rattle.syndrome_writer.specs.Characters.{characters_written}
+use Rattle.rack_answers.specs.Answers.{written_answer, syndrome_answer}
+use Rattle.rack.specs.Calls.{in_numbers, syndrome_call}
+use Rattle.rack.proofs.Lengths.{length-measured}
+use Rattle.rack.proofs.reinoften_syndrome.Goals as goal
+
+-- The count that the call answers is r.
+counted : (r : ℕ) (answer : SyndromeAnswer) → written_answer (characters_written r answer) ≡ syndrome_answer r answer
+unfolding characters_written
+counted r SyndromeAnswer.Given = refl
+counted r (SyndromeAnswer.Refused refusal) = refl
+
+pub shape_of-out : goal.shape_of-out
+shape_of-out c =
+    ap length c.write_characters.ensures.1 ∙ length-measured _ _ _
+
+pub returns : goal.returns
+unfolding syndrome_call in_numbers
+returns c =
+    let made = c.write_characters.ensures in
+    (c.of_written.ensures ∙ ap written_answer made.0 ∙ counted _ _, made.1)

@@ -1,0 +1,19 @@
+-- The answer of the call below, as numbers.
+use mathlib.Core.Path.{ap, ◌∙◌}
+use lib.ListN.{length}
+use Rattle.sheet.specs.Writer.{write_sheet}
+use Rattle.rack_answers.specs.Answers.{written_answer}
+use Rattle.rack.specs.Calls.{in_numbers, sheet_call}
+use Rattle.rack.proofs.Lengths.{length-written}
+use Rattle.rack.proofs.reinoften_write_sheet.Goals as goal
+
+pub shape_of-out : goal.shape_of-out
+unfolding write_sheet
+shape_of-out c =
+    ap length c.write_sheet.ensures.1 ∙ length-written _ _ _
+
+pub returns : goal.returns
+unfolding sheet_call in_numbers
+returns c =
+    let made = c.write_sheet.ensures in
+    (c.of_written.ensures ∙ ap written_answer made.0, made.1)

@@ -1,0 +1,33 @@
+-- What was read lies within the first buffer, and the second holds every report.
+use mathlib.Core.List.{List}
+use mathlib.Core.Path.{subst}
+use Prim.Native.Nat.{ℕ, ◌≤◌}
+use native.Mathlib.Omega.{arith}
+use lib.ListN.{length, take}
+use Rattle.io.specs.Counts.{IsPrefixLen}
+use Rattle.reporting.proofs.Fits.{report-fits}
+use Rattle.report.specs.declared.Input.{Input}
+use Rattle.report.specs.Input.{Within}
+use Rattle.report.proofs.main.Goals as goal
+use Rattle.report.proofs.main.Goals.{After-report-count, In-Got-2}
+
+-- ---- the input
+module _ (c : In-Got-2) where
+  abbrev bytes_read : List ℕ
+  bytes_read = c.read_input.new.0
+
+  within : IsPrefixLen c.in-Got.len bytes_read
+  within =
+      subst (λ (i : Input). Within i bytes_read) c.in-Got.is c.read_input.ensures
+
+-- ---- the report
+fits : (c : After-report-count) → c.report-count.result ≤ length c.report-count.new.1.0
+fits c =
+    let input = c.before.before.before.before.before in
+    omega (
+      arith,
+      report-fits (take input.in-Got.len (bytes_read input)),
+      c.report-count.ensures.0,
+      c.report-count.auto.1.0,
+      c.large_buffer-output.ensures,
+    )
