@@ -3,7 +3,7 @@ use Rattle.std.specs.Prelude.{cond, ℕ, ltb, length, drop}
 use Rattle.pauli.specs.declared.Pauli.{Pauli}
 use Rattle.refusals.specs.declared.Refusal.{Refusal}
 use Rattle.code_record.specs.declared.Code.{Code}
-use Rattle.sheet.specs.Reader.{Reader, SheetRead, stop, done, ◌andThen◌, claim_line}
+use Rattle.sheet.specs.Reader.{Reader, SheetRead, stop, done, ◌and_then◌, claim_line}
 use Rattle.row_reader.specs.Answers.{within_qubits}
 use Rattle.rows_reader.specs.declared.Rows.{Rows}
 use Rattle.rows_reader.specs.declared.Logicals.{Logicals}

@@ -5,7 +5,7 @@ use Rattle.refusals.specs.declared.Lines.{Lines}
 use Rattle.refusals.specs.declared.Refusal.{Refusal}
 use Rattle.code_record.specs.declared.LinesReading.{LinesReading}
 use Rattle.code_record.specs.Record.{most_qubits, row_room, first_generator_at, filled, code_of}
-use Rattle.sheet.specs.Reader.{Parsed, Reader, SheetRead, got, stop, done, ◌andThen◌, answered}
+use Rattle.sheet.specs.Reader.{Parsed, Reader, SheetRead, got, stop, done, ◌and_then◌, answered}
 use Rattle.sheet.specs.Reader.{generator_lines, claim_line, lines_after}
 use Rattle.rows_reader.specs.declared.Rows.{Rows}
 

@@ -9,7 +9,7 @@ use lib.ListN.{length, length-append, length-map}
 use Rattle.letters.specs.Lists.{bytes}
 use Rattle.code_record.specs.declared.Code.{Code}
 use Rattle.refusals.specs.declared.Refusal.{Refusal}
-use Rattle.sheet.specs.Reader.{got, done, ◌andThen◌}
+use Rattle.sheet.specs.Reader.{got, done, ◌and_then◌}
 use Rattle.sheet.proofs.Lengths.{length-line}
 use Rattle.sheet.proofs.Line.{line-outcome, line-returns}
 use Rattle.sheet.proofs.Outcome.{Outcome, gets, stops, continue-outcome}

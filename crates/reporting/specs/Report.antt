@@ -13,7 +13,7 @@ use Rattle.refusals.specs.declared.Written.{Written}
 use Rattle.refusals.specs.Refusals.{values}
 use Rattle.code_record.specs.Record.{logical_count, radius}
 use Rattle.sheet.specs.Text.{line, decimal, After, written}
-use Rattle.sheet.specs.Reader.{SheetRead, Reader, Parsed, got, stop, done, ◌andThen◌, read_line, read_lines}
+use Rattle.sheet.specs.Reader.{SheetRead, Reader, Parsed, got, stop, done, ◌and_then◌, read_line, read_lines}
 use Rattle.stabilizer.specs.Canonical.{canonical_text}
 use Rattle.admission.specs.Admission.{code_fault}
 use Rattle.decoder.specs.Syndrome.{read_syndrome}

@@ -5,7 +5,7 @@ use Rattle.pauli.specs.Product.{identity}
 use Rattle.refusals.specs.declared.Lines.{Lines}
 use Rattle.refusals.specs.declared.Refusal.{Refusal}
 use Rattle.code_record.specs.Record.{row_room, filled}
-use Rattle.sheet.specs.Reader.{Parsed, Reader, done, ◌andThen◌, logical_lines}
+use Rattle.sheet.specs.Reader.{Parsed, Reader, done, ◌and_then◌, logical_lines}
 use Rattle.line_parts.specs.LineValues.{lines_of, value_or}
 use Rattle.rows_reader.specs.declared.RowsAnswer.{RowsAnswer}
 use Rattle.rows_reader.specs.declared.Rows.{Rows}

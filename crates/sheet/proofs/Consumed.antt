@@ -17,7 +17,7 @@ use Rattle.pauli.specs.Product.{modulo4}
 use Rattle.refusals.specs.declared.Refusal.{Refusal}
 use Rattle.code_record.specs.Record.{most_qubits, most_distance, most_generators, between, is_row}
 use Rattle.code_record.proofs.Limits.{neither, all_first, between-bounds}
-use Rattle.sheet.specs.Reader.{stop, done, ◌andThen◌, begins, read_line, read_number, read_row, read_letters}
+use Rattle.sheet.specs.Reader.{stop, done, ◌and_then◌, begins, read_line, read_number, read_row, read_letters}
 use Rattle.sheet.specs.Reader.{in_range, qubit_line, distance_line, row_line, rows_up_to, counted_generators}
 use Rattle.sheet.specs.Reader.{generator_lines, counted_logicals, logical_lines, claim_line}
 use Rattle.sheet.specs.Statements.{Among}

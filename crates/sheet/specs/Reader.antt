@@ -34,9 +34,9 @@ unfoldable pub continue : {A B : Type 0} → Parsed A → (A → Reader B) → P
 continue (got a s) next = next a s
 continue (stop refusal) next = stop refusal
 
-infixr 10 ◌andThen◌
-abbrev pub ◌andThen◌ : {A B : Type 0} → Reader A → (A → Reader B) → Reader B
-◌andThen◌ first next s = continue (first s) next
+infixr 10 ◌and_then◌
+abbrev pub ◌and_then◌ : {A B : Type 0} → Reader A → (A → Reader B) → Reader B
+◌and_then◌ first next s = continue (first s) next
 
 unfoldable pub begins : List ℕ → List ℕ → Bool
 begins [] s = true

@@ -1,0 +1,20 @@
+-- The bit is that of the letter that the byte is read as.
+use mathlib.Core.Path.{ap, sym, ◌∙◌}
+use Rattle.letters.specs.Letters.{x_bit, letter_in}
+use borrow.Author.Rules.{rules}
+use Rattle.line_parts.specs.Values.{bit_of}
+use Rattle.line_parts.proofs.x_bit.Statement.{statement}
+use Rattle.line_parts.proofs.x_bit.Tie as tie
+
+returns : tie.Need-returns-in-Got
+returns c =
+    let found = c.before.before in
+    c.x_bit.ensures
+    ∙ ap (bit_of x_bit) (sym (ap letter_in found.in-Got.is) ∙ found.read.ensures)
+
+returns-2 : tie.Need-returns-in-NotALetter
+returns-2 c = ap (bit_of x_bit) (sym (ap letter_in c.in-NotALetter.is) ∙ c.read.ensures)
+
+pub x_bit_spec : {M : Type 1} → statement M
+x_bit_spec =
+    tie.close (tie.spec (λ c κs. search rules) (λ c. search rules) (λ c κs. search rules) (λ c. search rules) returns returns-2)
