@@ -1,7 +1,7 @@
 -- Each array of a record that a function is given has its room: the record's type says so, field by field.
 use mathlib.Core.List.{[], ◌∷◌}
-use mathlib.Core.Path.{◌≡◌, sym, ◌∙◌}
-use lib.ListN.{length, length-map}
+use mathlib.Core.Path.{◌≡◌}
+use lib.ListN.{length}
 use denote.Laws.{Is}
 use denote.Struct.Declared.{row}
 use denote.Struct.Laws.{val}
@@ -15,9 +15,9 @@ use Rattle.code_record.proofs.Code.TheLaws.{the_laws}
 pub sized_of : (c : Code) → Is (row the_type) c (val the_type the_laws c ∷ []) → Sized c
 sized_of c owned =
     record {
-      room_g = sym (length-map c.g _) ∙ owned.1.1.1.1.1.0.1.0.1;
-      room_x = sym (length-map c.x _) ∙ owned.1.1.1.1.1.1.0.1.0.1;
-      room_z = sym (length-map c.z _) ∙ owned.1.1.1.1.1.1.1.0.1.0.1;
+      room_g = owned.1.1.1.1.1.0.1.0.1;
+      room_x = owned.1.1.1.1.1.1.0.1.0.1;
+      room_z = owned.1.1.1.1.1.1.1.0.1.0.1;
     }
 
 pub room_of : (c : Code) → Sized c → (family : Family) → length (rows_of family c) ≡ row_room

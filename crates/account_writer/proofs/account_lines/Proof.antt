@@ -107,7 +107,7 @@ code-lines-requires c κs =
 
 add-end : tie.Need-overflow_add-end
 add-end c =
-    record { fits = omega (arith, (behind-all c).count-end, (at c).requires.1.1.1.1, (at c).well-formed.1.1.1.1.0) }
+    record { fits = omega (arith, (behind-all c).count-end, (at c).requires.1.1.1.1, (at c).well_formed.1.1.1.1.0) }
 
 returns : tie.Need-returns
 returns c = ((behind-all c).count-end, (behind-all c).content)

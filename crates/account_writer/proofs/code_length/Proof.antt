@@ -62,7 +62,7 @@ returns : tie.Need-returns
 returns c =
     let at = c.before in
     ap₂ (λ (first rows : ℕ). first + rows * ((code at).n + 4)) (header_is at) at.rows_there.ensures
-    ∙ sym (length-code_by (code at) (reduced at) (room_of (reduced at) (start at).well-formed.1.0))
+    ∙ sym (length-code_by (code at) (reduced at) (room_of (reduced at) (start at).well_formed.1.0))
 
 pub code_length_spec : {M : Type 1} → statement M
 code_length_spec =

@@ -101,7 +101,7 @@ module _ (c : tie.After-count-end-2) where
 
 -- ---- the needs
 add-end : tie.Need-overflow_add-end
-add-end c = record { fits = omega (arith, (behind-rows c).count-end, (s c).requires.1.1, (s c).well-formed.1.1.0) }
+add-end c = record { fits = omega (arith, (behind-rows c).count-end, (s c).requires.1.1, (s c).well_formed.1.1.0) }
 
 returns : tie.Need-returns
 returns c = ((behind-rows c).count-end, (behind-rows c).content)

@@ -55,7 +55,7 @@ within c =
 add-t13 : tie.Need-overflow_add-result
 add-t13 c =
     let read = c.before.before.before.before in
-    record { fits = lt_of_le_of_lt (within read) (start (line read)).well-formed.0.0 }
+    record { fits = lt_of_le_of_lt (within read) (start (line read)).well_formed.0.0 }
 
 returns-3 : tie.Need-returns
 returns-3 c =

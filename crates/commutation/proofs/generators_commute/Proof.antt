@@ -42,7 +42,7 @@ module _ (s : tie.Start invariant-loop2 decreases-loop2 invariant-loop decreases
   r = s.args.r
 
   abbrev g : List Pauli
-  g = s.args.t2
+  g = s.args.g
 
   room : length g ≡ row_room
   room = search rules

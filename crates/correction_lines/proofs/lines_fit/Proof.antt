@@ -28,7 +28,7 @@ At = tie.At-loop-place invariant-loop decreases-loop
 
 module _ (c : At) where
   abbrev words : LetterWords
-  words = c.args.t1
+  words = c.args.words
 
   abbrev t : ℕ
   t = c.args.t
@@ -77,7 +77,7 @@ module _ (c : tie.After-line_length-length invariant-loop decreases-loop) where
 
 -- ---- the needs
 loop-holds : tie.Need-loop-place-init invariant-loop decreases-loop
-loop-holds c = let a = c.args in left-all a.t1 a.t a.r a.syndromes.now a.room
+loop-holds c = let a = c.args in left-all a.words a.t a.r a.syndromes.now a.room
 
 returns : tie.Need-returns-in_default invariant-loop decreases-loop
 returns c =

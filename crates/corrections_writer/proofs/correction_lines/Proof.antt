@@ -37,7 +37,7 @@ module _ (c : At) where
   start = c.before.before.before
 
   abbrev words : LetterWords
-  words = start.args.t1
+  words = start.args.words
 
   abbrev t : ℕ
   t = start.args.t
@@ -139,7 +139,7 @@ module _ (c : tie.After-count-end invariant-loop decreases-loop) where
 loop-holds : tie.Need-loop-place-init invariant-loop decreases-loop
 loop-holds c =
     let a = c.args in
-    answered-none a.t1 a.t a.r a.syndromes.now a.out-1.now
+    answered-none a.words a.t a.r a.syndromes.now a.out-1.now
 
 same_length : tie.Need-shape_of-out-in_default invariant-loop decreases-loop
 same_length c = (at c.before).loop-place.invariant.held.size

@@ -81,7 +81,7 @@ returns-4 c =
     let call = c.before in
     let a = (entry call).args in
     has_room a.code a.characters.now a.out-1.now (within (limited (known call))) _ (read (known call))
-    (sized_of a.code (entry call).well-formed.0) (room call)
+    (sized_of a.code (entry call).well_formed.0) (room call)
     (ends-none a.code.n (found-for call) a.out-1.now (sym c.in_default-correct.is ∙ told call))
 
 -- ---- a correction was found, and the letters were filled in

@@ -43,7 +43,7 @@ module _ (c : tie.Start) where
   r = c.args.r
 
   abbrev g : List Pauli
-  g = c.args.t2
+  g = c.args.g
 
   are-within : GeneratorLimits n r g
   are-within = generator-limits n r g c.requires.0

@@ -130,11 +130,11 @@ module _ (c : tie.After-count-end-3) where
 
 -- ---- the needs
 add-end : tie.Need-overflow_add-end
-add-end c = record { fits = omega (arith, (behind_x c).count-end, fits_x (s_x c), (s_x c).well-formed.0) }
+add-end c = record { fits = omega (arith, (behind_x c).count-end, fits_x (s_x c), (s_x c).well_formed.0) }
 
 add-end-2 : tie.Need-overflow_add-end-2
 add-end-2 c =
-    record { fits = omega (arith, (behind_z c).count-end, (s c).requires.1.1, (s c).well-formed.0) }
+    record { fits = omega (arith, (behind_z c).count-end, (s c).requires.1.1, (s c).well_formed.0) }
 
 returns : tie.Need-returns
 returns c = ((behind_z c).count-end, (behind_z c).content)

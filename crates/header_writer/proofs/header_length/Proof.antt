@@ -18,15 +18,15 @@ few m small e = omega (arith, length-decimal-le m)
 two : (c : tie.After-digit_count-2) → c.digit_count.result + c.digit_count-2.result < 2 ^ 62
 two c =
     let s = c.before.before in
-    let n = few s.args.n s.well-formed.0.1 c.digit_count.ensures in
-    let k = few s.args.k s.well-formed.1.0.1 c.digit_count-2.ensures in omega arith
+    let n = few s.args.n s.well_formed.0.1 c.digit_count.ensures in
+    let k = few s.args.k s.well_formed.1.0.1 c.digit_count-2.ensures in omega arith
 
 third : (c : tie.After-digit_count-3) → c.digit_count-3.result < 2 ^ 61
-third c = let s = c.before.before.before in few s.args.d s.well-formed.1.1.0.1 c.digit_count-3.ensures
+third c = let s = c.before.before.before in few s.args.d s.well_formed.1.1.0.1 c.digit_count-3.ensures
 
 fourth : (c : tie.After-digit_count-4) → c.digit_count-4.result < 2 ^ 61
 fourth c =
-    let s = c.before.before.before.before in few s.args.t s.well-formed.1.1.1.0.1 c.digit_count-4.ensures
+    let s = c.before.before.before.before in few s.args.t s.well_formed.1.1.1.0.1 c.digit_count-4.ensures
 
 -- ---- the needs
 returns : tie.Need-returns

@@ -87,7 +87,7 @@ module _ (c : tie.After-count-end-2) where
 
 -- ---- the needs
 add-end : tie.Need-overflow_add-end
-add-end c = record { fits = omega (arith, (behind-t c).count-end, (s c).requires, (s c).well-formed.0) }
+add-end c = record { fits = omega (arith, (behind-t c).count-end, (s c).requires, (s c).well_formed.0) }
 
 returns : tie.Need-returns
 returns c = ((behind-t c).count-end, (behind-t c).content)

@@ -45,7 +45,7 @@ abbrev decreases-loop : tie.decreases-loop-place
 decreases-loop n count rows hs₀ place₀ hs place = row_room - place
 
 room : (c : tie.Start invariant-loop2 decreases-loop2 invariant-loop3 decreases-loop3 invariant-loop4 decreases-loop4 invariant-loop decreases-loop)
-    → length c.args.t2 ≡ row_room
+    → length c.args.rows ≡ row_room
 room c = search rules
 
 -- ---- a row
@@ -70,7 +70,7 @@ module _ (c : tie.After-is_phase invariant-loop2 decreases-loop2 invariant-loop3
   left_is : let a = (start loop2).args in
       loop2.loop-at.left
       ≡ reduced a.n (rows_in (value a.n (at loop2).loop-place.place (at loop2).loop-place.reduced))
-      (get_or a.t2 (at loop2).loop-place.place identity)
+      (get_or a.rows (at loop2).loop-place.place identity)
   left_is = reducing-end loop2.loop-at.invariant (added-count _ _ _ (at loop2).loop-place.invariant) c.loop-at-test.false
 
 -- ---- the needs
@@ -94,7 +94,7 @@ returns : tie.Need-returns-then-is_phase invariant-loop2 decreases-loop2 invaria
 returns c =
     let loop = loop2 c.before in
     let a = (start loop).args in
-    added-dependent a.n a.t2 a.count (at loop).loop-place.invariant (room (start loop)) (few loop)
+    added-dependent a.n a.rows a.count (at loop).loop-place.invariant (room (start loop)) (few loop)
     loop.loop-at.invariant.few (left_is c.before) (sym c.is_phase.ensures ∙ c.if-is_phase.true)
 
 loop3-holds : tie.Need-loop-at-2-init invariant-loop2 decreases-loop2 invariant-loop3 decreases-loop3 invariant-loop4 decreases-loop4 invariant-loop decreases-loop
@@ -126,9 +126,9 @@ loop-again c =
     let loop = loop2 tested in
     let a = (start loop).args in
     let inv = (at loop).loop-place.invariant in
-    let apart = added-apart a.n a.t2 a.count inv (room (start loop)) (few loop) loop.loop-at.invariant.few
+    let apart = added-apart a.n a.rows a.count inv (room (start loop)) (few loop) loop.loop-at.invariant.few
     (left_is tested) q.modulo4-left.ensures in
-    added_more a.n a.t2 a.count inv (room (start loop)) (few loop) loop.loop-at.invariant.few
+    added_more a.n a.rows a.count inv (room (start loop)) (few loop) loop.loop-at.invariant.few
     (left_is tested) (sym tested.is_phase.ensures ∙ q.if-is_phase.false) q.modulo4-left.ensures refl
     (placed loop3.loop-at-2.invariant loop3.loop-at-2-test.false loop4.loop-at-3.invariant apart
     (λ some. ⊎_elim (λ none. absurd (omega (arith, none.left-1)))

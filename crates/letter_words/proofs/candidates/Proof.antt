@@ -19,9 +19,9 @@ loop-holds : tie.Need-loop-place-init invariant-loop decreases-loop
 unfolding generators
 loop-holds c =
     let a = c.args in
-    let code = with_generators 0 a.r a.t2 in
-    let room : length a.t2 ≡ row_room = search rules in
-    at-the-end code a.syndrome _ _ room (omega (arith, c.at_most-count.ensures, length-take a.r a.t2))
+    let code = with_generators 0 a.r a.g in
+    let room : length a.g ≡ row_room = search rules in
+    at-the-end code a.syndrome _ _ room (omega (arith, c.at_most-count.ensures, length-take a.r a.g))
     c.all_or_none-all.ensures
 
 loop-again : tie.Need-loop-place-preserved invariant-loop decreases-loop

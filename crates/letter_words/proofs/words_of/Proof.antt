@@ -45,9 +45,9 @@ decreases-loop n r g qubits count words₀ qubit₀ at₀ words qubit at = qubit
 -- ---- a generator
 -- The words are those of this record.
 abbrev code : tie.Start invariant-loop2 decreases-loop2 invariant-loop decreases-loop → Code
-code start = with_generators start.args.n start.args.r start.args.t3
+code start = with_generators start.args.n start.args.r start.args.g
 
-room : (start : tie.Start invariant-loop2 decreases-loop2 invariant-loop decreases-loop) → length start.args.t3 ≡ row_room
+room : (start : tie.Start invariant-loop2 decreases-loop2 invariant-loop decreases-loop) → length start.args.g ≡ row_room
 room start = search rules
 
 abbrev start : tie.At-loop-place invariant-loop2 decreases-loop2 invariant-loop decreases-loop → tie.Start invariant-loop2 decreases-loop2 invariant-loop decreases-loop

@@ -38,7 +38,7 @@ module _ (c : tie.After-first_detected-detected) where
 
   counted : Within code pairs
   counted =
-      within code (sized_of code c.well-formed.0) limited
+      within code (sized_of code c.well_formed.0) limited
       c.pair_count-pairs.ensures
 
   abbrev whole : Option Refusal

@@ -38,7 +38,7 @@ abbrev at : tie.At-loop-row invariant-loop2 decreases-loop2 invariant-loop decre
 at c = c.before.before.before
 
 abbrev code : tie.At-loop-row invariant-loop2 decreases-loop2 invariant-loop decreases-loop → Code
-code c = (at c).args.t1
+code c = (at c).args.code
 
 module _ (c : tie.After-commutes invariant-loop2 decreases-loop2 invariant-loop decreases-loop) where
   abbrev turn : tie.In-loop-row invariant-loop2 decreases-loop2 invariant-loop decreases-loop
@@ -54,7 +54,7 @@ module _ (c : tie.After-commutes invariant-loop2 decreases-loop2 invariant-loop 
 loop-holds : tie.Need-loop-place-init invariant-loop2 decreases-loop2 invariant-loop decreases-loop
 loop-holds c =
     let s = c.before in
-    let w = within s.args.t1 (sized_of s.args.t1 s.well-formed.0) s.requires c.pair_count-pairs.ensures in
+    let w = within s.args.code (sized_of s.args.code s.well_formed.0) s.requires c.pair_count-pairs.ensures in
     (w, nine-first w.known)
 
 loop2-holds : tie.Need-loop-row-init invariant-loop2 decreases-loop2 invariant-loop decreases-loop
@@ -71,7 +71,7 @@ loop2-holds c =
         row = ⊎_elim (λ w. w.2 ∙ x-at k loop.place w.0.taken)
             (λ w. w.2 ∙ z-at k loop.place w.0.left inside) c.if-place-pairs.branch;
       },
-      tried-none _ c.args.t1.g _ (omega (arith, few)),
+      tried-none _ c.args.code.g _ (omega (arith, few)),
     )
 
 returns : tie.Need-returns-then-not-commutes invariant-loop2 decreases-loop2 invariant-loop decreases-loop

@@ -48,7 +48,7 @@ module _ (c : tie.After-commutes invariant-loop2 decreases-loop2 invariant-loop 
   tried = turn.before
 
   abbrev code : Code
-  code = (at tried).args.t1
+  code = (at tried).args.code
 
   -- It stands before the place, and is one of the logicals.
   inside : tried.loop-earlier.earlier < 2 * (at tried).x_count-xs.result
@@ -81,8 +81,8 @@ loop-holds : tie.Need-loop-place-init invariant-loop2 decreases-loop2 invariant-
 unfolding first_unpaired
 loop-holds c =
     let s = c.before.before in
-    let code = s.args.t1 in
-    let k = known code (sized_of code s.well-formed.0) c.pair_count-pairs.ensures c.x_count-xs.ensures in
+    let code = s.args.code in
+    let k = known code (sized_of code s.well_formed.0) c.pair_count-pairs.ensures c.x_count-xs.ensures in
     let all : 2 * c.x_count-xs.result - 0 ≡ length (logicals code) = omega (arith, logicals-length k) in
     (k, ap (first_place (unpaired_at code) 0) all)
 
@@ -127,7 +127,7 @@ loop-again c =
 returns-2 : tie.Need-returns invariant-loop2 decreases-loop2 invariant-loop decreases-loop
 returns-2 c =
     let loop = c.loop-place in
-    place_end (unpaired_at c.args.t1) loop.place _ c.loop-place-test.false
+    place_end (unpaired_at c.args.code) loop.place _ c.loop-place-test.false
     ∙ loop.invariant.1
 
 pub first_unpaired_spec : {M : Type 1} → statement M

@@ -19,10 +19,10 @@ abbrev decreases-loop : tie.decreases-loop-place
 decreases-loop rows count sums₀ place₀ sums place = count - place
 
 loop-holds : tie.Need-loop-place-init invariant-loop decreases-loop
-loop-holds c = (omega arith, none-added c.args.t1)
+loop-holds c = (omega arith, none-added c.args.rows)
 
-room : (start : tie.Start invariant-loop decreases-loop) → length start.args.t1.rows ≡ row_room
-room start = room_of start.args.t1 start.well-formed.0
+room : (start : tie.Start invariant-loop decreases-loop) → length start.args.rows.rows ≡ row_room
+room start = room_of start.args.rows start.well_formed.0
 
 -- The column has a place.
 column-room : (c : tie.After-pivot-column invariant-loop decreases-loop) → c.pivot-column.result < 65
@@ -42,7 +42,7 @@ loop-again c =
 returns : tie.Need-returns invariant-loop decreases-loop
 returns c =
     let called = c.before.before in
-    let hs = called.args.t1 in
+    let hs = called.args.rows in
     let end : length (rows_in hs) ≤ c.loop-place.place =
     omega (arith, c.loop-place-test.false, called.row_count-count.ensures, rows-length hs, room called.before) in
     all-added c.loop-place.invariant.1 end

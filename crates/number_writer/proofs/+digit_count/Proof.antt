@@ -31,7 +31,7 @@ module _ (t : ℕ) where
   add-result : lts.Need-overflow-add-result (below t, reads.Post) (at t) reads.Post
   add-result c =
       let m = c.before.before.args.m in
-      record { fits = omega (arith, c.digit-count.ensures, length-decimal-le (m / 10), c.before.before.well-formed) }
+      record { fits = omega (arith, c.digit-count.ensures, length-decimal-le (m / 10), c.before.before.well_formed) }
 
   returns-2 : lts.Need-returns-2 (below t, reads.Post) (at t) reads.Post
   returns-2 c =

@@ -88,7 +88,7 @@ module _ (t : ℕ) where
   slice-write-out-2 c = omega (arith, room c, (tenth c).size)
 
   add-result : lts.Need-overflow-add-result (below t, reads.Post) (at t) reads.Post
-  add-result c = record { fits = omega (arith, room c, c.before.before.before.before.before.before.well-formed.0) }
+  add-result c = record { fits = omega (arith, room c, c.before.before.before.before.before.before.well_formed.0) }
 
   same-length-2 : lts.Need-same-length-2 (below t, reads.Post) (at t) reads.Post
   same-length-2 c = simp length-set (tenth c).size

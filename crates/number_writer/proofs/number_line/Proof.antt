@@ -81,13 +81,13 @@ digits-requires c κs =
     room-behind (keyed p) (digits s) (omega (arith, room s, length-append (key s) (digits s)))
 
 add-end : tie.Need-overflow_add-end
-add-end c = let d = c.before.before in record { fits = omega (arith, inside d, (s d).well-formed.0) }
+add-end c = let d = c.before.before in record { fits = omega (arith, inside d, (s d).well_formed.0) }
 
 slice-write-out : tie.Need-bounds-out-end
 slice-write-out c = let d = c.before.before in omega (arith, inside d, (numbered d).size)
 
 add-result : tie.Need-overflow_add-result
-add-result c = let d = c.before.before in record { fits = omega (arith, inside d, (s d).well-formed.0) }
+add-result c = let d = c.before.before in record { fits = omega (arith, inside d, (s d).well_formed.0) }
 
 same_length : tie.Need-shape_of-out
 same_length c = (ended c.before.before).size

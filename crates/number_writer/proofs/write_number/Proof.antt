@@ -32,7 +32,7 @@ returns c =
 add-if2 : tie.Need-overflow_add-digit_count
 add-if2 c =
     let s = c.before.before.before.before in
-    record { fits = omega (arith, length-decimal-le s.args.m, c.digit_count.ensures, s.well-formed) }
+    record { fits = omega (arith, length-decimal-le s.args.m, c.digit_count.ensures, s.well_formed) }
 
 returns-2 : tie.Need-returns-then-out-key-2
 unfolding write_number

@@ -85,7 +85,7 @@ module _ (c : tie.After-count-end-2) where
 
 -- ---- the needs
 add-end : tie.Need-overflow_add-end
-add-end c = record { fits = omega (arith, (behind-second c).count-end, (s c).requires, (s c).well-formed.0) }
+add-end c = record { fits = omega (arith, (behind-second c).count-end, (s c).requires, (s c).well_formed.0) }
 
 returns : tie.Need-returns
 returns c = ((behind-second c).count-end, (behind-second c).content)

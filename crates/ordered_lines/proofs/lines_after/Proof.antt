@@ -97,7 +97,7 @@ add-claim-at c = omega (arith, few c, (start (found c.before.before)).requires.1
 add-claim-after : tie.Need-overflow_add-from
 add-claim-after c =
     let read = c.before.before in
-    record { fits = lt_of_le_of_lt (ls-read read).within (start (found read)).well-formed.0.0 }
+    record { fits = lt_of_le_of_lt (ls-read read).within (start (found read)).well_formed.0.0 }
 
 returns-2 : tie.Need-returns
 returns-2 c =

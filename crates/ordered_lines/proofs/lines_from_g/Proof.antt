@@ -122,7 +122,7 @@ add_at c = omega (arith, few c.before.before)
 add-lines-after : tie.Need-overflow_add-from
 add-lines-after c =
     let read = c.before.before in
-    record { fits = lt_of_le_of_lt (g-read read).within (start (found read)).well-formed.0.0 }
+    record { fits = lt_of_le_of_lt (g-read read).within (start (found read)).well_formed.0.0 }
 
 lines-after-requires : tie.Need-lines_after-requires
 lines-after-requires c κs =

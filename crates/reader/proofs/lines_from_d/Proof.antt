@@ -49,7 +49,7 @@ returns c =
 
 add-lines-from-g : tie.Need-overflow_add-from
 add-lines-from-g c =
-    let read = c.before in record { fits = lt_of_le_of_lt (d-read read).within (start (found read)).well-formed.0.0 }
+    let read = c.before in record { fits = lt_of_le_of_lt (d-read read).within (start (found read)).well_formed.0.0 }
 
 returns-2 : tie.Need-returns
 returns-2 c =

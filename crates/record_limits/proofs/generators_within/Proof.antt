@@ -45,32 +45,32 @@ returns : tie.Need-returns-then-not-counts_within invariant-loop decreases-loop
 unfolding generators_within
 returns c =
     let a = c.args in
-    ap (λ t. t && all_of (is_row a.n) (take a.r a.t3))
+    ap (λ t. t && all_of (is_row a.n) (take a.r a.g))
     (sym (failed c.counts_within.ensures c.if-not-counts_within.true-raw))
 
 loop-holds : tie.Need-loop-place-init invariant-loop decreases-loop
 loop-holds c =
     let a = (start c).args in
     let all : a.r ≡ a.r - 0 = omega arith in (
-      (start c).well-formed.1.1.0.1.0.1,
+      (start c).well_formed.1.1.0.1.0.1,
       omega arith,
       (sizes c).1,
-      ap (λ (i : ℕ). all_of (is_row a.n) (take i a.t3)) all,
+      ap (λ (i : ℕ). all_of (is_row a.n) (take i a.g)) all,
     )
 
 -- At a turn the row at the place is asked, and then those behind it.
 left : (c : tie.After-is_row invariant-loop decreases-loop) {test : Bool}
     → let at = c.before.before.before in
     let a = (start at.before).args in
-    is_row a.n (get_or a.t3 at.loop-place.place identity) ≡ test
-    → all_of (is_row a.n) (take a.r a.t3)
-    ≡ (test && all_of (is_row a.n) (take (a.r - (at.loop-place.place + 1)) (drop (at.loop-place.place + 1) a.t3)))
+    is_row a.n (get_or a.g at.loop-place.place identity) ≡ test
+    → all_of (is_row a.n) (take a.r a.g)
+    ≡ (test && all_of (is_row a.n) (take (a.r - (at.loop-place.place + 1)) (drop (at.loop-place.place + 1) a.g)))
 left c test =
     let at = c.before.before.before in
     let a = (start at.before).args in
     let few : at.loop-place.place < a.r = c.loop-place-test.true in
     at.loop-place.invariant.3
-    ∙ row_at a.n a.r at.loop-place.place a.t3 (omega (arith, at.loop-place.invariant.0, at.loop-place.invariant.2)) few test
+    ∙ row_at a.n a.r at.loop-place.place a.g (omega (arith, at.loop-place.invariant.0, at.loop-place.invariant.2)) few test
 
 returns-2 : tie.Need-returns-then-not-is_row invariant-loop decreases-loop
 unfolding generators_within
@@ -94,7 +94,7 @@ unfolding generators_within
 returns-3 c =
     let at = c.before in
     let a = (start at.before).args in
-    sym (at.loop-place.invariant.3 ∙ no-row-left a.n a.r at.loop-place.place a.t3 c.loop-place-test.false)
+    sym (at.loop-place.invariant.3 ∙ no-row-left a.n a.r at.loop-place.place a.g c.loop-place-test.false)
     ∙ and-true_l _ (counts-hold at.before)
 
 pub generators_within_spec : {M : Type 1} → statement M

@@ -137,7 +137,7 @@ module _ (c : tie.After-are_unused invariant-loop decreases-loop invariant-loop2
 loop-holds : tie.Need-loop-place-init invariant-loop decreases-loop invariant-loop2 decreases-loop2
 loop-holds c =
     let one = c.before.before in
-    passing-none _ _ _ (sized_of (code_of1 one) one.well-formed.0).room_g (sizes one).1
+    passing-none _ _ _ (sized_of (code_of1 one) one.well_formed.0).room_g (sizes one).1
 
 returns : tie.Need-returns-then-not-numbers_within invariant-loop decreases-loop invariant-loop2 decreases-loop2
 returns c = numbers-outside _ (failed c.numbers_within.ensures c.if-not-numbers_within.true-raw)

@@ -110,10 +110,10 @@ module _ (c : tie.After-count-end-3) where
 
 -- ---- the needs
 add-end : tie.Need-overflow_add-end
-add-end c = record { fits = omega (arith, (behind_e c).count-end, fits_e (s_e c), (s_e c).well-formed.0) }
+add-end c = record { fits = omega (arith, (behind_e c).count-end, fits_e (s_e c), (s_e c).well_formed.0) }
 
 add-end-2 : tie.Need-overflow_add-end-2
-add-end-2 c = record { fits = omega (arith, (behind_f c).count-end, (s c).requires.1.1, (s c).well-formed.0) }
+add-end-2 c = record { fits = omega (arith, (behind_f c).count-end, (s c).requires.1.1, (s c).well_formed.0) }
 
 returns : tie.Need-returns
 returns c = ((behind_f c).count-end, (behind_f c).content)

@@ -61,7 +61,7 @@ add-end : tie.Need-overflow_add-end invariant-loop decreases-loop
 add-end c =
     let read = c.before.before.before.before.before.before.before in
     record {
-      fits = omega (arith, counted c.before, size read, (here read).loop-end.invariant.1, (here read).well-formed);
+      fits = omega (arith, counted c.before, size read, (here read).loop-end.invariant.1, (here read).well_formed);
     }
 
 loop-less : tie.Need-loop-end-smaller invariant-loop decreases-loop

@@ -116,7 +116,7 @@ returns-3 c =
 add-t13 : tie.Need-overflow_add-result
 add-t13 c =
     let line = c.before.before.before.before.before in
-    record { fits = lt_of_le_of_lt (both-within line) (start (first line)).well-formed.0.0 }
+    record { fits = lt_of_le_of_lt (both-within line) (start (first line)).well_formed.0.0 }
 
 returns-4 : tie.Need-returns
 returns-4 c =

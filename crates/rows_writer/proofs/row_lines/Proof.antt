@@ -38,13 +38,13 @@ module _ (c : tie.In-loop-place invariant-loop decreases-loop) where
   n = (start c).args.n
 
   abbrev rows : List Pauli
-  rows = (start c).args.t5
+  rows = (start c).args.rows
 
   abbrev row : Pauli
   row = get_or rows c.loop-place.place identity
 
   few : (start c).args.count ≤ length rows
-  few = omega (arith, (start c).requires.1.1.0, (start c).well-formed.1.1.1.1.0.1.0.1)
+  few = omega (arith, (start c).requires.1.1.0, (start c).well_formed.1.1.1.1.0.1.0.1)
 
   -- The next line has room.
   room : c.loop-place.end + (n + 4) ≤ length (start c).args.out.now
@@ -131,8 +131,8 @@ returns c =
     let a = c.args in
     let l = c.loop-place in
     let all : l.place ≡ a.count-end = omega (arith, l.invariant.0, c.loop-place-test.false) in (
-      l.invariant.1.count ∙ ap (λ (i : ℕ). length (rows_text a.key a.n (take i a.t5))) all,
-      l.invariant.1.content ∙ ap (λ (i : ℕ). laid (rows_text a.key a.n (take i a.t5)) a.out-1.now) all,
+      l.invariant.1.count ∙ ap (λ (i : ℕ). length (rows_text a.key a.n (take i a.rows))) all,
+      l.invariant.1.content ∙ ap (λ (i : ℕ). laid (rows_text a.key a.n (take i a.rows)) a.out-1.now) all,
     )
 
 pub row_lines_spec : {M : Type 1} → statement M

@@ -28,7 +28,7 @@ module _ (c : tie.Start) where
   buffer = c.args.out.now
 
   sized : length rows ≡ row_room
-  sized = c.well-formed.1.1.1.0.1.0.1
+  sized = c.well_formed.1.1.1.0.1.0.1
 
 -- ---- within limits
 module _ (c : tie.After-rows_there-there) where

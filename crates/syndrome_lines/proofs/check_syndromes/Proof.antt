@@ -65,12 +65,12 @@ add-end : tie.Need-overflow_add-end invariant-loop decreases-loop
 add-end c = omega (arith, mask-few (r (here c)) _ (line_read c))
 
 add-end-2 : tie.Need-overflow_add-end-in-loop-end invariant-loop decreases-loop
-add-end-2 c = record { fits = lt_of_le_of_lt (within c) (here c).well-formed.0.0 }
+add-end-2 c = record { fits = lt_of_le_of_lt (within c) (here c).well_formed.0.0 }
 
 add-count : tie.Need-overflow_add-count invariant-loop decreases-loop
 add-count c =
     let fewer : (here c).loop-end.count + 1 ≤ length (s (here c)) = omega (arith, within c, (here c).loop-end.invariant.few) in
-    record { fits = lt_of_le_of_lt fewer (here c).well-formed.0.0 }
+    record { fits = lt_of_le_of_lt fewer (here c).well_formed.0.0 }
 
 loop-less : tie.Need-loop-end-smaller invariant-loop decreases-loop
 loop-less c = omega (arith, within c)

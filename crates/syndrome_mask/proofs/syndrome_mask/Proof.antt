@@ -24,16 +24,16 @@ module _ (c : tie.In-loop-place invariant-loop decreases-loop) where
   abbrev start : tie.Start invariant-loop decreases-loop
   start = c.before.before.before
 
-  room : length start.args.t1 ≡ row_room
+  room : length start.args.rows ≡ row_room
   room = search rules
 
   few : c.loop-place.place ≤ row_room
-  few = omega (arith, c.loop-place.invariant.0, length-take start.args.count start.args.t1, room)
+  few = omega (arith, c.loop-place.invariant.0, length-take start.args.count start.args.rows, room)
 
   small : c.loop-place.mask < 2 ^ 31
   small =
       let a = start.args in
-      let bound = mask-room a.count a.t1 c.loop-place.place a.p room (omega arith) in
+      let bound = mask-room a.count a.rows c.loop-place.place a.p room (omega arith) in
       omega (arith, bound, c.loop-place.invariant.1)
 
 -- ---- the needs
@@ -41,10 +41,10 @@ loop-holds : tie.Need-loop-place-init invariant-loop decreases-loop
 unfolding syndrome_mask syndrome mask_of_bits
 loop-holds c =
     let a = c.args in
-    let first = take a.count a.t1 in
-    let room : length a.t1 ≡ row_room = search rules in
+    let first = take a.count a.rows in
+    let room : length a.rows ≡ row_room = search rules in
     let all : c.row_count-place.result ≡ length first =
-    omega (arith, c.row_count-place.ensures, length-take a.count a.t1, room) in
+    omega (arith, c.row_count-place.ensures, length-take a.count a.rows, room) in
     let behind : length first ≤ c.row_count-place.result = omega (arith, all) in (
       omega (arith, all),
       ap (λ rows. syndrome_mask rows a.p) (sym (drop_of_length-le first behind)),
@@ -63,7 +63,7 @@ add-mask : tie.Need-overflow_add-mask invariant-loop decreases-loop
 add-mask c =
     let turn = c.before.before in
     let a = (start turn).args in
-    let bit = symplectic-lt (get_or a.t1 (turn.loop-place.place - 1) identity) a.p in
+    let bit = symplectic-lt (get_or a.rows (turn.loop-place.place - 1) identity) a.p in
     record { fits = omega (arith, small turn, c.symplectic.ensures, bit) }
 
 loop-again : tie.Need-loop-place-preserved invariant-loop decreases-loop
@@ -73,7 +73,7 @@ loop-again c =
     let a = (start turn).args in (
       omega arith,
       ap₂ (λ (mask bit : ℕ). 2 * mask + bit) at.loop-place.invariant.1 c.symplectic.ensures
-          ∙ mask-before a.count a.t1 at.loop-place.place a.p turn.loop-place-test.true at.loop-place.invariant.0,
+          ∙ mask-before a.count a.rows at.loop-place.place a.p turn.loop-place-test.true at.loop-place.invariant.0,
     )
 
 returns : tie.Need-returns invariant-loop decreases-loop
@@ -81,7 +81,7 @@ returns c =
     let at = c.before in
     let a = at.args in
     let first : at.loop-place.place ≡ 0 = omega (arith, c.loop-place-test.false) in
-    at.loop-place.invariant.1 ∙ ap (λ (i : ℕ). syndrome_mask (drop i (take a.count a.t1)) a.p) first
+    at.loop-place.invariant.1 ∙ ap (λ (i : ℕ). syndrome_mask (drop i (take a.count a.rows)) a.p) first
 
 pub syndrome_mask_spec : {M : Type 1} → statement M
 syndrome_mask_spec =

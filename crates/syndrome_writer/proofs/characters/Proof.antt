@@ -22,14 +22,14 @@ decreases-loop r p out₀ g place₀ out place = r - place
 abbrev start : tie.At-loop-place invariant-loop decreases-loop → tie.Start invariant-loop decreases-loop
 start c = c.before.before
 
-room : (c : tie.At-loop-place invariant-loop decreases-loop) → length (start c).args.t2 ≡ row_room
+room : (c : tie.At-loop-place invariant-loop decreases-loop) → length (start c).args.g ≡ row_room
 room c = search rules
 
 size : (c : tie.At-loop-place invariant-loop decreases-loop) → length c.loop-place.out ≡ length (start c).args.out.now
 size c =
     let a = (start c).args in
     ap length c.loop-place.invariant.1
-    ∙ length-laid-so_far a.r a.t2 a.p (room c) (start c).requires.0 a.out.now (start c).requires.1
+    ∙ length-laid-so_far a.r a.g a.p (room c) (start c).requires.0 a.out.now (start c).requires.1
     c.loop-place.place c.loop-place.invariant.0
 
 -- ---- the needs
@@ -44,11 +44,11 @@ loop-again c =
     let turn = c.before.before.before in
     let a = (start turn).args in
     let l = turn.loop-place in
-    let before = laid (take l.place (characters_of a.r a.t2 a.p)) a.out.now in (
+    let before = laid (take l.place (characters_of a.r a.g a.p)) a.out.now in (
       search rules,
       ap (λ bytes. set bytes l.place c.character.result) l.invariant.1
           ∙ ap (λ byte. set before l.place byte) c.character.ensures
-          ∙ character-laid a.r a.t2 a.p (room turn) (start turn).requires.0 a.out.now (start turn).requires.1
+          ∙ character-laid a.r a.g a.p (room turn) (start turn).requires.0 a.out.now (start turn).requires.1
           l.place (search rules),
     )
 
@@ -62,7 +62,7 @@ returns c =
     let l = c.loop-place in
     l.invariant.1
     ∙ ap (λ text. laid text a.out.now)
-    (characters-whole a.r a.t2 a.p (room c.before) s.pre.0 l.place (search rules))
+    (characters-whole a.r a.g a.p (room c.before) s.pre.0 l.place (search rules))
 
 pub characters_spec : {M : Type 1} → statement M
 characters_spec =

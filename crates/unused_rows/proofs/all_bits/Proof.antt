@@ -19,13 +19,13 @@ decreases-loop rows bits₀ place₀ bits place = place
 
 loop-holds : tie.Need-loop-place-init invariant-loop decreases-loop
 loop-holds c =
-    let room = c.well-formed.0.1.0.1 in
-    (room, omega arith, no-bits-behind c.args.t1 32 (omega (arith, room)))
+    let room = c.well_formed.0.1.0.1 in
+    (room, omega arith, no-bits-behind c.args.rows 32 (omega (arith, room)))
 
 loop-again : tie.Need-loop-place-preserved invariant-loop decreases-loop
 loop-again c =
     let at = c.before.before.before.before.before in
-    let rows = at.args.t1 in
+    let rows = at.args.rows in
     let room = at.loop-place.invariant.0 in
     let follows : at.loop-place.place ≡ suc (at.loop-place.place - 1) = omega arith in
     (room, omega arith, bits-from rows (at.loop-place.place - 1) (omega (arith, room)) follows at.loop-place.invariant.2)
@@ -33,7 +33,7 @@ loop-again c =
 returns : tie.Need-returns invariant-loop decreases-loop
 returns c =
     let end : c.loop-place.place ≡ 0 = omega arith in
-    c.loop-place.invariant.2 ∙ ap (λ (i : ℕ). all_bits (drop i c.args.t1)) end
+    c.loop-place.invariant.2 ∙ ap (λ (i : ℕ). all_bits (drop i c.args.rows)) end
 
 pub all_bits_spec : {M : Type 1} → statement M
 all_bits_spec =

@@ -22,18 +22,18 @@ abbrev decreases-loop : tie.decreases-loop-place
 decreases-loop rows place₀ place = row_room - place
 
 loop-holds : tie.Need-loop-place-init invariant-loop decreases-loop
-loop-holds c = (c.well-formed.0.1.0.1, omega arith, refl)
+loop-holds c = (c.well_formed.0.1.0.1, omega arith, refl)
 
 -- At a turn the row at the place is asked, and then those behind it.
 left : (c : tie.After-is_identity invariant-loop decreases-loop) {test : Bool}
     → let at = c.before.before.before in
-    same_pauli identity (get_or at.args.t1 at.loop-place.place identity) ≡ test
-    → are_identities at.args.t1
-    ≡ (test && are_identities (drop (at.loop-place.place + 1) at.args.t1))
+    same_pauli identity (get_or at.args.rows at.loop-place.place identity) ≡ test
+    → are_identities at.args.rows
+    ≡ (test && are_identities (drop (at.loop-place.place + 1) at.args.rows))
 left c test =
     let at = c.before.before.before in
     at.loop-place.invariant.2
-    ∙ identity-at at.args.t1 at.loop-place.place (omega (arith, at.loop-place.invariant.0)) test
+    ∙ identity-at at.args.rows at.loop-place.place (omega (arith, at.loop-place.invariant.0)) test
 
 returns : tie.Need-returns-then-not-is_identity invariant-loop decreases-loop
 returns c = sym (left c.before (failed c.is_identity.ensures c.if-not-is_identity.true-raw))
@@ -49,7 +49,7 @@ loop-again c = (
 returns-2 : tie.Need-returns invariant-loop decreases-loop
 returns-2 c =
     let at = c.before in
-    sym (at.loop-place.invariant.2 ∙ identities-behind at.args.t1 at.loop-place.place
+    sym (at.loop-place.invariant.2 ∙ identities-behind at.args.rows at.loop-place.place
     (omega (arith, at.loop-place.invariant.0)))
 
 pub are_identities_spec : {M : Type 1} → statement M

@@ -16,7 +16,7 @@ use Rattle.writer.proofs.sheet_length.Statement.{statement}
 use Rattle.writer.proofs.sheet_length.Tie as tie
 
 sized : (c : tie.Start) → Sized c.args.code
-sized c = sized_of c.args.code c.well-formed.0
+sized c = sized_of c.args.code c.well_formed.0
 
 module _ (c : tie.After-digit_count-2) where
   abbrev start : tie.Start

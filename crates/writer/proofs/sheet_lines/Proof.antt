@@ -118,10 +118,10 @@ module _ (c : tie.After-count-end-3) where
 
 -- ---- the needs
 add-end : tie.Need-overflow_add-end
-add-end c = record { fits = omega (arith, (behind_rows c).count-end, fits_rows (s_r c), (s_r c).well-formed.0) }
+add-end c = record { fits = omega (arith, (behind_rows c).count-end, fits_rows (s_r c), (s_r c).well_formed.0) }
 
 add-end-2 : tie.Need-overflow_add-end-2
-add-end-2 c = record { fits = omega (arith, (behind_w c).count-end, (s c).requires.1, (s c).well-formed.0) }
+add-end-2 c = record { fits = omega (arith, (behind_w c).count-end, (s c).requires.1, (s c).well_formed.0) }
 
 returns : tie.Need-returns
 returns c = ((behind_w c).count-end, (behind_w c).content)

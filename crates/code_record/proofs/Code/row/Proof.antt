@@ -22,8 +22,8 @@ returns c =
     let a = start.args in
     c.identity.ensures
     ∙ sym
-    (get_or-eq_default (rows_of a.family a.t1) identity
-    (omega (arith, room_of a.t1 (sized_of a.t1 start.well-formed.0) a.family)))
+    (get_or-eq_default (rows_of a.family a.self) identity
+    (omega (arith, room_of a.self (sized_of a.self start.well_formed.0) a.family)))
 
 returns-2 : tie.Need-returns-in-Generator
 returns-2 c = of-family _ _ c.in-Generator.is

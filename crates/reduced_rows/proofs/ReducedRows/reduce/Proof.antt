@@ -21,10 +21,10 @@ invariant-loop self n count left₀ place₀ left place =
 abbrev decreases-loop : tie.decreases-loop-place
 decreases-loop self n count left₀ place₀ left place = count - place
 
-room : (c : tie.At-loop-place invariant-loop decreases-loop) → length c.args.t1.rows ≡ row_room
-room c = room_of c.args.t1 c.well-formed.0
+room : (c : tie.At-loop-place invariant-loop decreases-loop) → length c.args.self.rows ≡ row_room
+room c = room_of c.args.self c.well_formed.0
 
-few : (c : tie.Then-place-count invariant-loop decreases-loop) → c.loop-place.place < c.args.t1.count
+few : (c : tie.Then-place-count invariant-loop decreases-loop) → c.loop-place.place < c.args.self.count
 few c = omega (arith, ltb-true)
 
 loop-holds : tie.Need-loop-place-init invariant-loop decreases-loop
@@ -38,21 +38,21 @@ loop-again c =
     let turn = c.before.before in
     let at = turn.before.before in
     let a = at.args in
-    ap (reduced a.t1.n (drop (at.loop-place.place + 1) (rows_in a.t1))) c.cleared-left.ensures
-    ∙ sym (reduced-at a.t1 at.loop-place.place a.t1.n at.loop-place.left (few turn) (omega (arith, room at)))
+    ap (reduced a.self.n (drop (at.loop-place.place + 1) (rows_in a.self))) c.cleared-left.ensures
+    ∙ sym (reduced-at a.self at.loop-place.place a.self.n at.loop-place.left (few turn) (omega (arith, room at)))
     ∙ at.loop-place.invariant
 
 returns : tie.Need-returns-else-place-count invariant-loop decreases-loop
 returns c =
     let at = c.before.before in
     let a = at.args in
-    reduced-end a.t1 at.loop-place.place a.t1.n at.loop-place.left (inl (omega (arith, ltb-false))) ∙ at.loop-place.invariant
+    reduced-end a.self at.loop-place.place a.self.n at.loop-place.left (inl (omega (arith, ltb-false))) ∙ at.loop-place.invariant
 
 returns-2 : tie.Need-returns-after-loop-place invariant-loop decreases-loop
 returns-2 c =
     let at = c.before in
     let a = at.args in
-    reduced-end a.t1 at.loop-place.place a.t1.n at.loop-place.left (inr (omega (arith, room at))) ∙ at.loop-place.invariant
+    reduced-end a.self at.loop-place.place a.self.n at.loop-place.left (inr (omega (arith, room at))) ∙ at.loop-place.invariant
 
 pub reduce_spec : {M : Type 1} → statement M
 reduce_spec =
