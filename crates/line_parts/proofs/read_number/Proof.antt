@@ -79,7 +79,7 @@ add-t11 c =
       arith,
       digit-small _ _ (first-is (first-at c.before)),
       digit-small _ _
-          (second_is c.before),
+          (second_is c),
     )
 
 returns-7 : tie.Need-returns
@@ -88,7 +88,7 @@ returns-7 c =
     gives (first-at found).before
     (two_digits (first (first-at found)) found.if-first-eq0.false (word_at found)
     c.in-Got-read_digit.second (search rules)
-    (first-is (first-at found)) (second_is c.before))
+    (first-is (first-at found)) (second_is c))
 
 pub read_number_spec : {M : Type 1} → statement M
 read_number_spec =
