@@ -34,8 +34,8 @@ returns c =
 
 returns-2 : tie.Need-returns-then-number-low
 returns-2 c =
-    let number = c.before.before.before in
-    let found = number.before in
+    let number = c in
+    let found = c.before.before in
     c.refused-then-number-low.ensures _
     ∙ ap (number_answer _)
     (sym
@@ -44,8 +44,8 @@ returns-2 c =
 
 returns-3 : tie.Need-returns
 returns-3 c =
-    let number = c.before.before.before in
-    let found = number.before in
+    let number = c in
+    let found = c.before.before in
     let value = value-is found ∙ ap number_in number.in-Got.is in
     let line = line-value (digits found) read_number _ (s found) value in
     number_read (s found) _ (omega (arith, value-within 2 (digits found) read_number (s found) value)) _

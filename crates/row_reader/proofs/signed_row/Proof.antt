@@ -16,17 +16,17 @@ use Rattle.row_reader.proofs.LetterLines.{row-no-letters, row-no-sign, row-value
 use Rattle.row_reader.proofs.signed_row.Statement.{statement}
 use Rattle.row_reader.proofs.signed_row.Tie as tie
 
-abbrev start : tie.In-Got-2 → tie.Start
+abbrev start : tie.In-Got → tie.Start
 start c = c.before.before.before
 
 abbrev s : tie.Start → List ℕ
 s c = c.args.s.now
 
-letters-are : (c : tie.In-Got-2)
+letters-are : (c : tie.In-Got)
     → value_from 3 (start c).args.n (up_to most_qubits read_letters) (s (start c)) ≡ some c.in-Got.plus
 letters-are c = sym c.line_letters.ensures ∙ ap row_in c.in-Got.is
 
-within : (c : tie.In-Got-2) → (start c).args.n + 3 < length (s (start c))
+within : (c : tie.In-Got) → (start c).args.n + 3 < length (s (start c))
 within c = value-within 3 (start c).args.n (up_to most_qubits read_letters) (s (start c)) (letters-are c)
 
 returns : tie.Need-returns-in_default
