@@ -19,7 +19,7 @@ use Rattle.row_reader.proofs.claim_line.Statement.{statement}
 use Rattle.row_reader.proofs.claim_line.Tie as tie
 
 abbrev start : tie.In-Claim → tie.Start
-start c = c.before.before
+start c = c.before.before.before
 
 abbrev s : tie.Start → List ℕ
 s c = c.args.s.now
@@ -56,11 +56,11 @@ within c =
     value-within 2 (start-of-row c).args.n (up_to most_qubits read_letters) (s (start-of-row c)) (letters-are c)
 
 add-t6 : tie.Need-overflow_add-result
-add-t6 c = omega (arith, within c.before)
+add-t6 c = omega (arith, within c)
 
 returns-3 : tie.Need-returns
 returns-3 c =
-    let row = c.before in
+    let row = c in
     let key = keyed row.before.before in
     record {
       within = omega (arith, within row);
