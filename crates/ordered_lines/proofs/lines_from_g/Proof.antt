@@ -117,7 +117,7 @@ returns-3 c =
     (then-stop (next line.before) (was-refused (g-answer line) c.in_default.is)))
 
 add_at : tie.Need-overflow_add-at
-add_at c = omega (arith, few c)
+add_at c = omega (arith, few c.before)
 
 add-lines-after : tie.Need-overflow_add-from
 add-lines-after c =
