@@ -139,7 +139,7 @@ module _ (c : tie.After-count-end invariant-loop decreases-loop) where
 loop-holds : tie.Need-loop-place-init invariant-loop decreases-loop
 loop-holds c =
     let a = c.args in
-    answered-none a.words a.t a.r a.syndromes.now a.out-1.now
+    answered-none a.words a.t a.r a.syndromes.now a.out.now
 
 same_length : tie.Need-shape_of-out-in_default invariant-loop decreases-loop
 same_length c = (at c.before).loop-place.invariant.held.size

@@ -132,7 +132,7 @@ returns c =
     let l = c.loop-place in
     let all : l.place ≡ a.count-end = omega (arith, l.invariant.0, c.loop-place-test.false) in (
       l.invariant.1.count ∙ ap (λ (i : ℕ). length (rows_text a.key a.n (take i a.rows))) all,
-      l.invariant.1.content ∙ ap (λ (i : ℕ). laid (rows_text a.key a.n (take i a.rows)) a.out-1.now) all,
+      l.invariant.1.content ∙ ap (λ (i : ℕ). laid (rows_text a.key a.n (take i a.rows)) a.out.now) all,
     )
 
 pub row_lines_spec : {M : Type 1} → statement M
