@@ -20,7 +20,7 @@ returns : tie.Need-returns-in-Found
 returns c =
     let call = c.before.before in
     let a = c.args in
-    let payload = call.correction-1.given in
+    let payload = call.correction.given in
     let e = found-written a.n a.out.now payload.0.0 payload.1 in (
       letters-answered call ∙ ap (λ after. after.answer) e,
       call.write_letters.ensures.1 ∙ ap (λ after. after.buffer) e,

@@ -47,7 +47,7 @@ module _ (c : tie.After-count-end) where
   start = c.before.before.before.before.before.before.before.before
 
   abbrev out : List ℕ
-  out = c.write_numbers.new.1.1.1.1.0
+  out = c.write_numbers.new.out
 
   behind-k : Holds (front start) (buffer start) out c.count-end.result
   behind-k =
@@ -56,7 +56,7 @@ module _ (c : tie.After-count-end) where
       record {
         content = content-is (front start) (buffer start) whole call.ensures.1;
         count = count-is (front start) (buffer start) whole call.ensures.0 c.count-end.ensures;
-        size = call.auto.1.1.1.1.0;
+        size = call.auto.out;
       }
 
   inside : c.count-end.result ≤ length out
@@ -74,7 +74,7 @@ module _ (c : tie.After-count-end-2) where
   end = fronted.count-end.result
 
   behind-t : Holds (header_text (n s) (k s) (d s) (t s)) (buffer s)
-      (back end (out fronted) c.write_numbers-2.new.1.1.1.1.0)
+      (back end (out fronted) c.write_numbers-2.new.out)
       (end + c.count-end-2.result)
   behind-t =
       let call = c.write_numbers-2 in
@@ -82,15 +82,15 @@ module _ (c : tie.After-count-end-2) where
       let whole = numbers-has-room _ (d s) _ (t s) part (room-behind (behind-k fronted) (rest s) (fits s)) in
       holds_as
       (holds_more (behind-k fronted) (rest s) (count-is (rest s) part whole call.ensures.0 c.count-end-2.ensures)
-      (content-is (rest s) part whole call.ensures.1) call.auto.1.1.1.1.0)
+      (content-is (rest s) part whole call.ensures.1) call.auto.out)
       (header-parts (n s) (k s) (d s) (t s))
 
 -- ---- the needs
 add-end : tie.Need-overflow_add-end
-add-end c = record { fits = omega (arith, (behind-t c).count-end, (s c).requires, (s c).well_formed.0) }
+add-end c = record { fits = omega (arith, (behind-t c).count, (s c).requires, (s c).well_formed.0) }
 
 returns : tie.Need-returns
-returns c = ((behind-t c).count-end, (behind-t c).content)
+returns c = ((behind-t c).count, (behind-t c).content)
 
 pub header_lines_spec : {M : Type 1} → statement M
 header_lines_spec =

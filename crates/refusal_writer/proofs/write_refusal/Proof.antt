@@ -15,7 +15,7 @@ returns c =
     let other = c.before.before.before.before.before.before.before in
     let told = other.before in
     let a = told.args in
-    plain-answers a.refusal-1 (no-errors a.refusal-1 other.in-DistanceRefuted.in-DistanceRefuted-own.keys2) a.out.now told.values-values.result
+    plain-answers a.refusal (no-errors a.refusal other.in-DistanceRefuted.in-DistanceRefuted-own.keys2) a.out.now told.values-values.result
     told.values-values.ensures (call.ensures.0, call.ensures.1)
 
 returns-2 : tie.Need-returns

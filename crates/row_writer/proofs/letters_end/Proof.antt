@@ -16,7 +16,7 @@ start c = c.before.before.before.before.before
 
 -- The buffer with the letters at its front. It is as long as it was.
 abbrev filled : tie.After-slice_known-2-1 → List ℕ
-filled c = c.fill_letters.new.1.0 ++ drop (start c).args.n (start c).args.out.now
+filled c = c.fill_letters.new.out ++ drop (start c).args.n (start c).args.out.now
 
 size : (c : tie.After-slice_known-2-1) → length (filled c) ≡ length (start c).args.out.now
 size c =

@@ -46,7 +46,7 @@ same_length : tie.Need-shape_of-out
 same_length c =
     let at = c.before.before in
     let out = (start at).args.out.now in
-    length_back 2 (sets out 0 (front at)) at.letters_end.new.0 at.letters_end.auto.0
+    length_back 2 (sets out 0 (front at)) at.letters_end.new.out at.letters_end.auto.out
     ∙ length-sets out 0 (front at)
 
 returns : tie.Need-returns
@@ -54,7 +54,7 @@ returns c =
     let at = c.before.before in
     let a = (start at).args in (
       sym (length-letters_line_text a.key a.n a.row),
-      front-laid (front at) a.out.now at.letters_end.new.0 a.n a.row (omega (arith, room (start at)))
+      front-laid (front at) a.out.now at.letters_end.new.out a.n a.row (omega (arith, room (start at)))
           at.letters_end.ensures
           ∙ ap (λ text. laid text a.out.now) (sym (letters-text a.key a.n a.row)),
     )
