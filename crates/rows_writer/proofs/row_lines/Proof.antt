@@ -95,7 +95,7 @@ module _ (c : tie.After-count-end invariant-loop decreases-loop) where
       (holds_more turn.loop-place.invariant.1 text count (content-is text part whole call.ensures.1)
       call.auto.out)
       (first_more (key turn) (n turn) (rows turn) turn.loop-place.place
-      (omega (arith, few turn, turn.loop-place-test.taken)))
+      (omega (arith, few turn, turn.loop-place-test.true)))
 
 -- ---- the needs
 loop-holds : tie.Need-loop-place-init invariant-loop decreases-loop
@@ -130,7 +130,7 @@ returns : tie.Need-returns invariant-loop decreases-loop
 returns c =
     let a = c.args in
     let l = c.loop-place in
-    let all : l.place ≡ a.count-end = omega (arith, l.invariant.0, c.loop-place-test.false) in (
+    let all : l.place ≡ a.count = omega (arith, l.invariant.0, c.loop-place-test.false) in (
       l.invariant.1.count ∙ ap (λ (i : ℕ). length (rows_text a.key a.n (take i a.rows))) all,
       l.invariant.1.content ∙ ap (λ (i : ℕ). laid (rows_text a.key a.n (take i a.rows)) a.out.now) all,
     )
