@@ -50,7 +50,7 @@ module _ (c : tie.Start) where
 -- ---- behind each call
 module _ (c : tie.After-count-end) where
   abbrev start : tie.Start
-  start = c.before.before.before.before.before.before.before.before
+  start = c.before.before.before.before.before.before.before.before.before.before
 
   abbrev out_n : List ℕ
   out_n = c.write_numbers.new.out
@@ -98,7 +98,7 @@ module _ (c : tie.After-count-end-2) where
 
 module _ (c : tie.After-count-end-3) where
   abbrev at_r : tie.After-count-end-2
-  at_r = c.before.before.before.before.before
+  at_r = c.before.before.before.before.before.before
 
   abbrev s : tie.Start
   s = s_r at_r
@@ -128,4 +128,4 @@ returns c = ((behind_w c).count, (behind_w c).content)
 
 pub sheet_lines_spec : {M : Type 1} → statement M
 sheet_lines_spec =
-    tie.close (tie.spec (λ c κs. search rules) (λ c κs. search rules) (λ c. search rules) (λ c. search rules) (λ c. search rules) (λ c κs. search rules) (λ c κs. search rules) add-end (λ c. search rules) (λ c. search rules) (λ c. search rules) (λ c κs. search rules) (λ c κs. search rules) add-end-2 (λ c. search rules) returns)
+    tie.close (tie.spec (λ c κs. search rules) (λ c κs. search rules) inside_n inside_n (λ c. search rules) (λ c κs. search rules) (λ c κs. search rules) add-end (λ c. inside_r c.before) (λ c. inside_r c.before) (λ c. search rules) (λ c κs. search rules) (λ c κs. search rules) add-end-2 (λ c. (behind_w c).size) returns)
