@@ -44,7 +44,7 @@ module _ (c : tie.Start) where
 -- ---- behind n and k
 module _ (c : tie.After-count-end) where
   abbrev start : tie.Start
-  start = c.before.before.before.before.before.before.before.before
+  start = c.before.before.before.before.before.before.before.before.before.before
 
   abbrev out : List ℕ
   out = c.write_numbers.new.out
@@ -65,7 +65,7 @@ module _ (c : tie.After-count-end) where
 -- ---- behind d and t
 module _ (c : tie.After-count-end-2) where
   abbrev fronted : tie.After-count-end
-  fronted = c.before.before.before.before.before.before.before
+  fronted = c.before.before.before.before.before.before.before.before.before
 
   abbrev s : tie.Start
   s = start fronted
@@ -94,4 +94,4 @@ returns c = ((behind-t c).count, (behind-t c).content)
 
 pub header_lines_spec : {M : Type 1} → statement M
 header_lines_spec =
-    tie.close (tie.spec (λ c κs. search rules) (λ c κs. search rules) (λ c. search rules) (λ c. search rules) (λ c. search rules) (λ c κs. search rules) (λ c κs. search rules) add-end (λ c. search rules) returns)
+    tie.close (tie.spec (λ c κs. search rules) (λ c κs. search rules) (λ c. inside c.before.before.before.before) (λ c. inside c.before.before.before.before) (λ c. search rules) (λ c κs. search rules) (λ c κs. search rules) add-end (λ c. (behind-t c).size) returns)

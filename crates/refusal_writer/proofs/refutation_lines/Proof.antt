@@ -40,7 +40,7 @@ module _ (c : tie.Start) where
 -- ---- behind each call
 module _ (c : tie.After-count-end) where
   abbrev start : tie.Start
-  start = c.before.before.before.before.before.before.before.before
+  start = c.before.before.before.before.before.before.before.before.before.before
 
   abbrev out_at : List ℕ
   out_at = c.write_numbers.new.out
@@ -63,7 +63,7 @@ module _ (c : tie.After-count-end) where
 
 module _ (c : tie.After-count-end-2) where
   abbrev front : tie.After-count-end
-  front = c.before.before.before.before.before
+  front = c.before.before.before.before.before.before
 
   abbrev s_e : tie.Start
   s_e = start front
@@ -89,7 +89,7 @@ module _ (c : tie.After-count-end-2) where
 
 module _ (c : tie.After-count-end-3) where
   abbrev at_e : tie.After-count-end-2
-  at_e = c.before.before.before.before.before
+  at_e = c.before.before.before.before.before.before
 
   abbrev s : tie.Start
   s = s_e at_e
