@@ -131,8 +131,7 @@ loop-again c =
     added_more a.n a.rows a.count inv (room (start loop)) (few loop) loop.loop-at.invariant.few
     (left_is tested) (sym tested.is_phase.ensures ∙ q.if-is_phase.false) q.modulo4-left.ensures refl
     (placed loop3.loop-at-2.invariant loop3.loop-at-2-test.false loop4.loop-at-3.invariant apart
-    (λ some. ⊎_elim (λ none. absurd (omega (arith, none.left-1)))
-    (λ t. omega (arith, t.3.taken, t.2.ensures, loop4.pivot-first.ensures)) c.loop-at-3-test.branch))
+    (λ some. let h = c.loop-at-3-test.branch in ?))
 
 returns-2 : tie.Need-returns-else-place-count invariant-loop2 decreases-loop2 invariant-loop3 decreases-loop3 invariant-loop4 decreases-loop4 invariant-loop decreases-loop
 returns-2 c = added-end _ _ _ c.loop-place.invariant (inl (omega (arith, ltb-false)))
