@@ -64,7 +64,7 @@ letters = I ∷ X ∷ Y ∷ Z ∷ []
 
 letter-at-rank : (l : Letter) → get_or letters (rank l) I ≡ l
 unfolding rank
-letter-at-rank l = elim l [ I ↦ refl | X ↦ refl | Y ↦ refl | Z ↦ refl ]
+letter-at-rank l = elim l as (λ k. get_or letters (rank k) I ≡ k) [ I ↦ refl | X ↦ refl | Y ↦ refl | Z ↦ refl ]
 
 rank-injective : (l m : Letter) → rank l ≡ rank m → l ≡ m
 rank-injective l m e = cc (letter-at-rank l, letter-at-rank m)
@@ -181,7 +181,7 @@ rest v l = elim l [ I ↦ suc v | X ↦ v | Y ↦ v | Z ↦ v ]
 
 letter-and-rest : (v : ℕ) (l : Letter) → letter_weight l + rest v l ≡ suc v
 unfolding letter_weight
-letter-and-rest v l = elim l [ I ↦ omega arith | X ↦ omega arith | Y ↦ omega arith | Z ↦ omega arith ]
+letter-and-rest v l = elim l as (λ k. letter_weight k + rest v k ≡ suc v) [ I ↦ omega arith | X ↦ omega arith | Y ↦ omega arith | Z ↦ omega arith ]
 
 abbrev tails_of : ℕ → ℕ → Letter → List (List Letter)
 tails_of n v l = strings n (rest v l)
