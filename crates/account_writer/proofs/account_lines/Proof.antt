@@ -51,12 +51,12 @@ module _ (c : tie.After-radius) where
   end = c.code_lines-end.result
 
   abbrev out : List ℕ
-  out = c.code_lines-end.new.1.1.0
+  out = c.code_lines-end.new.out
 
   behind-code : Holds (code_by (code start) (reduced start)) (buffer start) out end
   behind-code =
       let call = c.code_lines-end in
-      record { content = call.ensures.1; count = call.ensures.0; size = call.auto.1.1.0 }
+      record { content = call.ensures.1; count = call.ensures.0; size = call.auto.out }
 
   inside : end ≤ length out
   inside = end-within behind-code (fits-code start)
@@ -82,7 +82,7 @@ module _ (c : tie.After-count-end) where
       ≡ record { answer = Written.Count (length given); buffer = laid given part }
   unfolding write_corrections
   whole =
-      written-whole given part (qubits-within (words at).qubits at.pre.1.1.0 at.pre.1.1.1.0)
+      written-whole given part (qubits-within (words at).qubits at.requires.1.1.0 at.requires.1.1.1.0)
       (omega (
         arith,
         ap length same-corrections,
@@ -90,13 +90,13 @@ module _ (c : tie.After-count-end) where
       ))
 
   behind-all : Holds (account_by (code at) (reduced at) (words at) (s at)) (buffer at)
-      (back (end first) (out first) c.write_corrections.new.1.1.1.1.0)
+      (back (end first) (out first) c.write_corrections.new.out)
       (end first + c.count-end.result)
   behind-all =
       let call = c.write_corrections in
       holds_as
       (holds_more (behind-code first) given (count-is given part whole call.ensures.0 c.count-end.ensures)
-      (content-is given part whole call.ensures.1) call.auto.1.1.1.1.0)
+      (content-is given part whole call.ensures.1) call.auto.out)
       (ap (λ (lines : List ℕ). code_by (code at) (reduced at) ++ lines) same-corrections
       ∙ account-parts (code at) (reduced at) (words at) (s at))
 
@@ -107,10 +107,10 @@ code-lines-requires c κs =
 
 add-end : tie.Need-overflow_add-end
 add-end c =
-    record { fits = omega (arith, (behind-all c).count-end, (at c).requires.1.1.1.1, (at c).well_formed.1.1.1.1.0) }
+    record { fits = omega (arith, (behind-all c).count, (at c).requires.1.1.1.1, (at c).well_formed.1.1.1.1.0) }
 
 returns : tie.Need-returns
-returns c = ((behind-all c).count-end, (behind-all c).content)
+returns c = ((behind-all c).count, (behind-all c).content)
 
 pub account_lines_spec : {M : Type 1} → statement M
 account_lines_spec =

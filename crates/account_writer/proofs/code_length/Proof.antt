@@ -34,7 +34,7 @@ module _ (c : tie.After-rows_there) where
       c.radius.ensures
 
   rows_few : c.rows_there.result * (code.n + 4) ≤ 32 * 28
-  rows_few = mul-le-mul {n₂ = 32} {m₂ = 28} (omega (arith, c.rows_there.ensures)) (omega (arith, start.pre))
+  rows_few = mul-le-mul {n₂ = 32} {m₂ = 28} (omega (arith, c.rows_there.ensures)) (omega (arith, start.requires))
 
   -- Four numbers have few digits.
   header-few : length (header code reduced) ≤ 2 ^ 63
@@ -47,8 +47,8 @@ module _ (c : tie.After-rows_there) where
         length-decimal-le (logical_count code),
         length-decimal-le code.d,
         length-decimal-le (radius code),
-        start.pre,
-        start.good,
+        start.requires,
+        start.well_formed,
       )
 
 mul-result : tie.Need-overflow_mul-result

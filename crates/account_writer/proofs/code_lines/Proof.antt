@@ -40,7 +40,7 @@ module _ (c : tie.After-count-end) where
   start = c.before.before.before.before.before.before.before.before.before
 
   abbrev out : List ℕ
-  out = c.write_header.new.1.1.1.1.0
+  out = c.write_header.new.out
 
   abbrev k : ℕ
   k = c.pair_count-k.result
@@ -67,7 +67,7 @@ module _ (c : tie.After-count-end) where
       (record {
         content = content-is given (buffer start) whole call.ensures.1;
         count = count-is given (buffer start) whole call.ensures.0 c.count-end.ensures;
-        size = call.auto.1.1.1.1.0;
+        size = call.auto.out;
       })
       same-header
 
@@ -86,25 +86,25 @@ module _ (c : tie.After-count-end-2) where
   end = first.count-end.result
 
   behind-rows : Holds (code_by (code s) (reduced s)) (buffer s)
-      (back end (out first) c.write_rows.new.1.1.1.1.0)
+      (back end (out first) c.write_rows.new.out)
       (end + c.count-end-2.result)
   behind-rows =
       let call = c.write_rows in
       let part = lent end (out first) in
       let lines = row_lines (code s) (reduced s) in
-      let whole = rows-has-room 104 (code s).n (take (reduced s).count-end (reduced s).rows-1) part s.pre.0
-      s.pre.1.0 (room-behind (behind-header first) lines (fits s)) in
+      let whole = rows-has-room 104 (code s).n (take (reduced s).count (reduced s).rows) part s.requires.0
+      s.requires.1.0 (room-behind (behind-header first) lines (fits s)) in
       holds_as
       (holds_more (behind-header first) lines (count-is lines part whole call.ensures.0 c.count-end-2.ensures)
-      (content-is lines part whole call.ensures.1) call.auto.1.1.1.1.0)
+      (content-is lines part whole call.ensures.1) call.auto.out)
       (code-parts (code s) (reduced s))
 
 -- ---- the needs
 add-end : tie.Need-overflow_add-end
-add-end c = record { fits = omega (arith, (behind-rows c).count-end, (s c).requires.1.1, (s c).well_formed.1.1.0) }
+add-end c = record { fits = omega (arith, (behind-rows c).count, (s c).requires.1.1, (s c).well_formed.1.1.0) }
 
 returns : tie.Need-returns
-returns c = ((behind-rows c).count-end, (behind-rows c).content)
+returns c = ((behind-rows c).count, (behind-rows c).content)
 
 pub code_lines_spec : {M : Type 1} → statement M
 code_lines_spec =

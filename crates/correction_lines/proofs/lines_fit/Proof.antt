@@ -97,7 +97,7 @@ add-place c = omega (arith, mask-few (r (here c.before)) _ (line_read c.before))
 
 add-place-2 : tie.Need-overflow_add-place-in-loop-place invariant-loop decreases-loop
 add-place-2 c =
-    record { fits = lt_of_le_of_lt (within c.before) (here c.before).good.1.1.1.0.0 }
+    record { fits = lt_of_le_of_lt (within c.before) (here c.before).well_formed.1.1.1.0.0 }
 
 loop-less : tie.Need-loop-place-smaller invariant-loop decreases-loop
 loop-less c = omega (arith, within c.before)

@@ -13,15 +13,15 @@ use Rattle.correction_writer.proofs.write_correction.Tie as tie
 letters-answered : (c : tie.After-write_letters)
     → let a = c.args in
     c.write_letters.result
-    ≡ (write_letters 99 a.n c.in-Found.p a.out-1.now).answer
+    ≡ (write_letters 99 a.n c.in-Found.p a.out.now).answer
 letters-answered c = c.write_letters.ensures.0
 
 returns : tie.Need-returns-in-Found
 returns c =
     let call = c.before.before in
     let a = c.args in
-    let payload = call.correction-1.given in
-    let e = found-written a.n a.out-1.now payload.0.0 payload.1 in (
+    let payload = call.correction.given in
+    let e = found-written a.n a.out.now payload.0.0 payload.1 in (
       letters-answered call ∙ ap (λ after. after.answer) e,
       call.write_letters.ensures.1 ∙ ap (λ after. after.buffer) e,
     )
@@ -38,7 +38,7 @@ unfolding bytes
 returns-2 c =
     let call = c.before.before in
     let a = c.args in
-    let e = none_written a.n a.out-1.now call.in-None.is in (
+    let e = none_written a.n a.out.now call.in-None.is in (
       none-answered call ∙ ap (λ after. after.answer) e,
       call.write_text.ensures.1 ∙ ap (λ after. after.buffer) e,
     )

@@ -85,7 +85,7 @@ module _ (c : tie.After-correct_by-correction invariant-loop decreases-loop) whe
   room : here.loop-place.end + length next ≤ length (buffer here)
   room =
       next-room (words here) (t here) (r here) (s here) (buffer here) here.loop-place.invariant line_read
-      (start here).pre.1.1
+      (start here).requires.1.1
 
   inside : here.loop-place.end ≤ length here.loop-place.out
   inside = omega (arith, room, here.loop-place.invariant.held.size)
@@ -111,13 +111,13 @@ module _ (c : tie.After-count-end invariant-loop decreases-loop) where
   whole : write_correction (words place).qubits found.correct_by-correction.result part
       ≡ record { answer = Written.Count (length line-text); buffer = laid line-text part }
   whole =
-      correction-has-room (words place).qubits (start place).pre.0 (start place).pre.1.0
+      correction-has-room (words place).qubits (start place).requires.0 (start place).requires.1.0
       found.correct_by-correction.result part
       (omega (
         arith,
         ap length same_line,
         next_fits (words place) (t place) (r place) (s place) (buffer place) place.loop-place.invariant (line_read found)
-            (start place).pre.1.1,
+            (start place).requires.1.1,
       ))
 
   counted : c.count-end.result ≡ length (next found)
@@ -126,20 +126,20 @@ module _ (c : tie.After-count-end invariant-loop decreases-loop) where
       ∙ ap length same_line
 
   answered : Answered (words place) (t place) (r place) (s place) (buffer place) (place.loop-place.place + (r place + 3))
-      (back place.loop-place.end place.loop-place.out c.write_correction.new.1.1.0)
+      (back place.loop-place.end place.loop-place.out c.write_correction.new.out)
       (place.loop-place.end + c.count-end.result)
   answered =
       let call = c.write_correction in
       answered-more (words place) (t place) (r place) (s place) (buffer place) place.loop-place.invariant (line_read found)
-      (start place).pre.1.1 counted
+      (start place).requires.1.1 counted
       (content-is line-text part whole call.ensures.1 ∙ ap (λ (l : List ℕ). laid l part) same_line)
-      call.auto.1.1.0
+      call.auto.out
 
 -- ---- the needs
 loop-holds : tie.Need-loop-place-init invariant-loop decreases-loop
 loop-holds c =
     let a = c.args in
-    answered-none a.words a.t a.r a.syndromes.now a.out-1.now
+    answered-none a.words a.t a.r a.syndromes.now a.out.now
 
 same_length : tie.Need-shape_of-out-in_default invariant-loop decreases-loop
 same_length c = (at c.before).loop-place.invariant.held.size
@@ -157,7 +157,7 @@ part-write-correction-start : tie.Need-slice_bounds-write_correction-start invar
 part-write-correction-start c = inside c
 
 add-end : tie.Need-overflow_add-end invariant-loop decreases-loop
-add-end c = record { fits = omega (arith, room (found c), counted c, (start (place c)).good.1.1.1.1.0) }
+add-end c = record { fits = omega (arith, room (found c), counted c, (start (place c)).well_formed.1.1.1.1.0) }
 
 loop-less : tie.Need-loop-place-smaller invariant-loop decreases-loop
 loop-less c = omega (arith, within (found c))
@@ -175,4 +175,4 @@ returns-2 c =
 
 pub correction_lines_spec : {M : Type 1} → statement M
 correction_lines_spec =
-    tie.close (tie.spec invariant-loop decreases-loop loop-holds (λ c. search rules) (λ c. search rules) (λ c. search rules) (λ c κs. search rules) (λ c. search rules) (λ c. search rules) same_length returns (λ c κs. search rules) sub-write-correction part-write-correction-start (λ c. search rules) (λ c κs. search rules) (λ c κs. search rules) add-end (λ c. omega (arith, mask-few (r (place c)) _ (line_read (found c)))) (λ c. record { fits = lt_of_le_of_lt (within (found c)) (start (place c)).good.1.1.1.0.0 }) loop-less loop-again same-length-2 returns-2)
+    tie.close (tie.spec invariant-loop decreases-loop loop-holds (λ c. search rules) (λ c. search rules) (λ c. search rules) (λ c κs. search rules) (λ c. search rules) (λ c. search rules) same_length returns (λ c κs. search rules) sub-write-correction part-write-correction-start (λ c. search rules) (λ c κs. search rules) (λ c κs. search rules) add-end (λ c. omega (arith, mask-few (r (place c)) _ (line_read (found c)))) (λ c. record { fits = lt_of_le_of_lt (within (found c)) (start (place c)).well_formed.1.1.1.0.0 }) loop-less loop-again same-length-2 returns-2)

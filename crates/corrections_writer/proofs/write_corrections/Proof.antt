@@ -19,14 +19,14 @@ returns : tie.Need-returns-then-words-lt2
 unfolding write_corrections
 returns c =
     let a = c.args in
-    outside-limits a.words.qubits (corrections_text a.words a.t a.r a.syndromes.now) a.out-1.now
+    outside-limits a.words.qubits (corrections_text a.words a.t a.r a.syndromes.now) a.out.now
     (outside-between 2 most_qubits a.words.qubits (inl (search rules)))
 
 returns-2 : tie.Need-returns-then-words-gt-MOST_QUBITS
 unfolding write_corrections
 returns-2 c =
     let a = c.args in
-    outside-limits a.words.qubits (corrections_text a.words a.t a.r a.syndromes.now) a.out-1.now
+    outside-limits a.words.qubits (corrections_text a.words a.t a.r a.syndromes.now) a.out.now
     (outside-between 2 most_qubits a.words.qubits (inr (search rules)))
 
 -- ---- behind the two tests of the qubits
@@ -47,7 +47,7 @@ room : (c : tie.Else-not-corrections_fit) → length (text c.before) ≤ length 
 room c =
     let a = (start c.before).args in
     let b = bounds c.before in
-    fit-room a.words a.t a.r a.syndromes.now (length a.out-1.now) b.0 b.1
+    fit-room a.words a.t a.r a.syndromes.now (length a.out.now) b.0 b.1
     (sym (passed c.corrections_fit.ensures c.if-not-corrections_fit.false-raw))
 
 -- ---- the needs
@@ -56,8 +56,8 @@ unfolding write_corrections
 returns-3 c =
     let a = (start c.before).args in
     let b = bounds c.before in
-    too_short (qubits c.before) (text c.before) a.out-1.now b.0 b.1
-    (unfit-room a.words a.t a.r a.syndromes.now (length a.out-1.now) b.0 b.1
+    too_short (qubits c.before) (text c.before) a.out.now b.0 b.1
+    (unfit-room a.words a.t a.r a.syndromes.now (length a.out.now) b.0 b.1
     (sym (failed c.corrections_fit.ensures c.if-not-corrections_fit.true-raw)))
 
 correction-lines-requires : tie.Need-correction_lines-requires

@@ -42,18 +42,18 @@ module _ (c : tie.After-pair_count-k) where
   fits_g = front_fits (to_g code) _ fits_x
 
   abbrev lines_x : List ℕ
-  lines_x = rows_text 120 code.n (take k code.x-1)
+  lines_x = rows_text 120 code.n (take k code.x)
 
   abbrev lines_z : List ℕ
-  lines_z = rows_text 122 code.n (take k code.z-1)
+  lines_z = rows_text 122 code.n (take k code.z)
 
   more_x : to_g code ++ lines_x ≡ to_x code
   unfolding logical_xs logical_count
-  more_x = ap (λ (count : ℕ). to_g code ++ rows_text 120 code.n (take count code.x-1)) c.pair_count-k.ensures
+  more_x = ap (λ (count : ℕ). to_g code ++ rows_text 120 code.n (take count code.x)) c.pair_count-k.ensures
 
   more_z : to_x code ++ lines_z ≡ to_z code
   unfolding logical_zs logical_count
-  more_z = ap (λ (count : ℕ). to_x code ++ rows_text 122 code.n (take count code.z-1)) c.pair_count-k.ensures
+  more_z = ap (λ (count : ℕ). to_x code ++ rows_text 122 code.n (take count code.z)) c.pair_count-k.ensures
 
 -- ---- behind each call
 module _ (c : tie.After-count-end) where
@@ -61,7 +61,7 @@ module _ (c : tie.After-count-end) where
   start = c.before.before.before.before.before.before.before.before
 
   abbrev out_g : List ℕ
-  out_g = c.write_rows.new.1.1.1.1.0
+  out_g = c.write_rows.new.out
 
   abbrev end_g : ℕ
   end_g = c.count-end.result
@@ -75,7 +75,7 @@ module _ (c : tie.After-count-end) where
       record {
         content = content-is (to_g (code start)) (buffer start) whole call.ensures.1;
         count = count-is (to_g (code start)) (buffer start) whole call.ensures.0 c.count-end.ensures;
-        size = call.auto.1.1.1.1.0;
+        size = call.auto.out;
       }
 
   inside_g : end_g ≤ length out_g
@@ -89,7 +89,7 @@ module _ (c : tie.After-count-end-2) where
   s_x = start at_g
 
   abbrev out_x : List ℕ
-  out_x = back (end_g at_g) (out_g at_g) c.write_rows-2.new.1.1.1.1.0
+  out_x = back (end_g at_g) (out_g at_g) c.write_rows-2.new.out
 
   abbrev end_x : ℕ
   end_x = end_g at_g + c.count-end-2.result
@@ -98,11 +98,11 @@ module _ (c : tie.After-count-end-2) where
   behind_x =
       let call = c.write_rows-2 in
       let part = lent (end_g at_g) (out_g at_g) in
-      let whole = rows-has-room 120 (code s_x).n (take (k s_x) (code s_x).x-1) part (qubits s_x).0 (qubits s_x).1
+      let whole = rows-has-room 120 (code s_x).n (take (k s_x) (code s_x).x) part (qubits s_x).0 (qubits s_x).1
       (room-behind (behind_g at_g) (lines_x s_x) (omega (arith, fits_x s_x, ap length (more_x s_x)))) in
       holds_as
       (holds_more (behind_g at_g) (lines_x s_x) (count-is (lines_x s_x) part whole call.ensures.0 c.count-end-2.ensures)
-      (content-is (lines_x s_x) part whole call.ensures.1) call.auto.1.1.1.1.0)
+      (content-is (lines_x s_x) part whole call.ensures.1) call.auto.out)
       (more_x s_x)
 
   inside_x : end_x ≤ length out_x
@@ -116,28 +116,28 @@ module _ (c : tie.After-count-end-3) where
   s = s_x at_x
 
   behind_z : Holds (families_text (code s)) (buffer s)
-      (back (end_x at_x) (out_x at_x) c.write_rows-3.new.1.1.1.1.0)
+      (back (end_x at_x) (out_x at_x) c.write_rows-3.new.out)
       (end_x at_x + c.count-end-3.result)
   behind_z =
       let call = c.write_rows-3 in
       let part = lent (end_x at_x) (out_x at_x) in
-      let whole = rows-has-room 122 (code s).n (take (k s) (code s).z-1) part (qubits s).0 (qubits s).1
+      let whole = rows-has-room 122 (code s).n (take (k s) (code s).z) part (qubits s).0 (qubits s).1
       (room-behind (behind_x at_x) (lines_z s) (omega (arith, fits_z s, ap length (more_z s)))) in
       holds_as
       (holds_more (behind_x at_x) (lines_z s) (count-is (lines_z s) part whole call.ensures.0 c.count-end-3.ensures)
-      (content-is (lines_z s) part whole call.ensures.1) call.auto.1.1.1.1.0)
+      (content-is (lines_z s) part whole call.ensures.1) call.auto.out)
       (more_z s ∙ families-parts (code s))
 
 -- ---- the needs
 add-end : tie.Need-overflow_add-end
-add-end c = record { fits = omega (arith, (behind_x c).count-end, fits_x (s_x c), (s_x c).well_formed.0) }
+add-end c = record { fits = omega (arith, (behind_x c).count, fits_x (s_x c), (s_x c).well_formed.0) }
 
 add-end-2 : tie.Need-overflow_add-end-2
 add-end-2 c =
-    record { fits = omega (arith, (behind_z c).count-end, (s c).requires.1.1, (s c).well_formed.0) }
+    record { fits = omega (arith, (behind_z c).count, (s c).requires.1.1, (s c).well_formed.0) }
 
 returns : tie.Need-returns
-returns c = ((behind_z c).count-end, (behind_z c).content)
+returns c = ((behind_z c).count, (behind_z c).content)
 
 pub family_lines_spec : {M : Type 1} → statement M
 family_lines_spec =

@@ -43,7 +43,7 @@ module _ (c : tie.After-row_count) where
 
   length-is : length (families_text (code start)) ≡ size
   length-is =
-      length-families (code start) (sized_of (code start) start.good.0)
+      length-families (code start) (sized_of (code start) start.well_formed.0)
       ∙ ap (λ (rows : ℕ). rows * (n + 4)) (sym c.row_count.ensures)
 
   size_small : size ≤ 3 * row_room * 28

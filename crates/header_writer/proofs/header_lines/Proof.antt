@@ -44,10 +44,10 @@ module _ (c : tie.Start) where
 -- ---- behind n and k
 module _ (c : tie.After-count-end) where
   abbrev start : tie.Start
-  start = c.before.before.before.before.before.before.before.before
+  start = c.before.before.before.before.before.before.before.before.before.before
 
   abbrev out : List ℕ
-  out = c.write_numbers.new.1.1.1.1.0
+  out = c.write_numbers.new.out
 
   behind-k : Holds (front start) (buffer start) out c.count-end.result
   behind-k =
@@ -56,7 +56,7 @@ module _ (c : tie.After-count-end) where
       record {
         content = content-is (front start) (buffer start) whole call.ensures.1;
         count = count-is (front start) (buffer start) whole call.ensures.0 c.count-end.ensures;
-        size = call.auto.1.1.1.1.0;
+        size = call.auto.out;
       }
 
   inside : c.count-end.result ≤ length out
@@ -65,7 +65,7 @@ module _ (c : tie.After-count-end) where
 -- ---- behind d and t
 module _ (c : tie.After-count-end-2) where
   abbrev fronted : tie.After-count-end
-  fronted = c.before.before.before.before.before.before.before
+  fronted = c.before.before.before.before.before.before.before.before.before
 
   abbrev s : tie.Start
   s = start fronted
@@ -74,7 +74,7 @@ module _ (c : tie.After-count-end-2) where
   end = fronted.count-end.result
 
   behind-t : Holds (header_text (n s) (k s) (d s) (t s)) (buffer s)
-      (back end (out fronted) c.write_numbers-2.new.1.1.1.1.0)
+      (back end (out fronted) c.write_numbers-2.new.out)
       (end + c.count-end-2.result)
   behind-t =
       let call = c.write_numbers-2 in
@@ -82,16 +82,16 @@ module _ (c : tie.After-count-end-2) where
       let whole = numbers-has-room _ (d s) _ (t s) part (room-behind (behind-k fronted) (rest s) (fits s)) in
       holds_as
       (holds_more (behind-k fronted) (rest s) (count-is (rest s) part whole call.ensures.0 c.count-end-2.ensures)
-      (content-is (rest s) part whole call.ensures.1) call.auto.1.1.1.1.0)
+      (content-is (rest s) part whole call.ensures.1) call.auto.out)
       (header-parts (n s) (k s) (d s) (t s))
 
 -- ---- the needs
 add-end : tie.Need-overflow_add-end
-add-end c = record { fits = omega (arith, (behind-t c).count-end, (s c).requires, (s c).well_formed.0) }
+add-end c = record { fits = omega (arith, (behind-t c).count, (s c).requires, (s c).well_formed.0) }
 
 returns : tie.Need-returns
-returns c = ((behind-t c).count-end, (behind-t c).content)
+returns c = ((behind-t c).count, (behind-t c).content)
 
 pub header_lines_spec : {M : Type 1} → statement M
 header_lines_spec =
-    tie.close (tie.spec (λ c κs. search rules) (λ c κs. search rules) (λ c. search rules) (λ c. search rules) (λ c. search rules) (λ c κs. search rules) (λ c κs. search rules) add-end (λ c. search rules) returns)
+    tie.close (tie.spec (λ c κs. search rules) (λ c κs. search rules) (λ c. inside c.before.before.before.before) (λ c. inside c.before.before.before.before) (λ c. search rules) (λ c κs. search rules) (λ c κs. search rules) add-end (λ c. (behind-t c).size) returns)

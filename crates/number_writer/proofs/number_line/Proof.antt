@@ -31,7 +31,7 @@ module _ (c : tie.After-count-end) where
   start = c.before.before.before.before.before.before.before
 
   abbrev keyed-out : List ℕ
-  keyed-out = c.write_text.new.1.0
+  keyed-out = c.write_text.new.out
 
   keyed : Holds (key start) (buffer start) keyed-out c.count-end.result
   keyed =
@@ -40,7 +40,7 @@ module _ (c : tie.After-count-end) where
       record {
         content = content-is (key start) (buffer start) whole call.ensures.1;
         count = count-is (key start) (buffer start) whole call.ensures.0 c.count-end.ensures;
-        size = call.auto.1.0;
+        size = call.auto.out;
       }
 
 -- ---- behind the digits
@@ -51,7 +51,7 @@ abbrev end : tie.After-digits-end → ℕ
 end c = (fronted c).count-end.result + c.digits-end.result
 
 abbrev out : tie.After-digits-end → List ℕ
-out c = back (fronted c).count-end.result (keyed-out (fronted c)) c.digits-end.new.0
+out c = back (fronted c).count-end.result (keyed-out (fronted c)) c.digits-end.new.out
 
 module _ (c : tie.After-digits-end) where
   abbrev s : tie.Start
@@ -59,10 +59,10 @@ module _ (c : tie.After-digits-end) where
 
   numbered : Holds (key s ++ digits s) (buffer s) (out c) (end c)
   numbered =
-      holds_more (keyed (fronted c)) (digits s) c.digits-end.ensures.0 c.digits-end.ensures.1 c.digits-end.auto.0
+      holds_more (keyed (fronted c)) (digits s) c.digits-end.ensures.0 c.digits-end.ensures.1 c.digits-end.auto.out
 
   inside : end c < length (buffer s)
-  inside = omega (arith, room s, (keyed (fronted c)).count-end, c.digits-end.ensures.0)
+  inside = omega (arith, room s, (keyed (fronted c)).count, c.digits-end.ensures.0)
 
   ended : Holds ((key s ++ digits s) ++ 10 ∷ []) (buffer s) (set (out c) (end c) 10) (end c + 1)
   ended = holds-byte numbered 10 (omega (arith, inside, numbered.size))
@@ -81,13 +81,13 @@ digits-requires c κs =
     room-behind (keyed p) (digits s) (omega (arith, room s, length-append (key s) (digits s)))
 
 add-end : tie.Need-overflow_add-end
-add-end c = let d = c.before.before in record { fits = omega (arith, inside d, (s d).well_formed.0) }
+add-end c = let d = c.before.before in record { fits = omega (arith, inside d, (s d).well_formed) }
 
 slice-write-out : tie.Need-bounds-out-end
 slice-write-out c = let d = c.before.before in omega (arith, inside d, (numbered d).size)
 
 add-result : tie.Need-overflow_add-result
-add-result c = let d = c.before.before in record { fits = omega (arith, inside d, (s d).well_formed.0) }
+add-result c = let d = c.before.before in record { fits = omega (arith, inside d, (s d).well_formed) }
 
 same_length : tie.Need-shape_of-out
 same_length c = (ended c.before.before).size
@@ -96,7 +96,7 @@ returns : tie.Need-returns
 returns c =
     let d = c.before.before in
     let text = number-text (key (s d)) (s d).args.m in
-    ((ended d).count-end ∙ ap length text, (ended d).content ∙ ap (λ t. laid t (buffer (s d))) text)
+    ((ended d).count ∙ ap length text, (ended d).content ∙ ap (λ t. laid t (buffer (s d))) text)
 
 pub number_line_spec : {M : Type 1} → statement M
 number_line_spec =

@@ -25,9 +25,9 @@ returns : tie.Need-returns-then-out-key
 unfolding write_number
 returns c =
     let a = c.args in
-    let short : length a.out-1.now < length (number_text a.key.now a.m) =
+    let short : length a.out.now < length (number_text a.key.now a.m) =
     omega (arith, length-number_text a.key.now a.m, c.if-out-key.true) in
-    answers-short (number_text a.key.now a.m) a.out-1.now refl short
+    answers-short (number_text a.key.now a.m) a.out.now refl short
 
 add-if2 : tie.Need-overflow_add-digit_count
 add-if2 c =
@@ -38,9 +38,9 @@ returns-2 : tie.Need-returns-then-out-key-2
 unfolding write_number
 returns-2 c =
     let a = c.args in
-    let short : length a.out-1.now < length (number_text a.key.now a.m) =
+    let short : length a.out.now < length (number_text a.key.now a.m) =
     omega (arith, length-number_text a.key.now a.m, c.if-out-key-2.true, c.digit_count.ensures) in
-    answers-short (number_text a.key.now a.m) a.out-1.now refl short
+    answers-short (number_text a.key.now a.m) a.out.now refl short
 
 number-line-requires : tie.Need-number_line-requires
 number-line-requires c κs = room c.before
@@ -51,7 +51,7 @@ returns-3 c =
     let line = c.before.before in
     let behind = line.before.before in
     let a = (start behind).args in
-    answers-whole (number_text a.key.now a.m) a.out-1.now refl (room behind) line.number_line.ensures.0
+    answers-whole (number_text a.key.now a.m) a.out.now refl (room behind) line.number_line.ensures.0
     line.number_line.ensures.1
 
 pub write_number_spec : {M : Type 1} → statement M

@@ -45,7 +45,7 @@ module _ (c : tie.After-count-end) where
   start = c.before.before.before.before.before.before.before.before
 
   abbrev out : List ℕ
-  out = c.write_number.new.1.1.0
+  out = c.write_number.new.out
 
   fronted : Holds (line start) (buffer start) out c.count-end.result
   fronted =
@@ -54,7 +54,7 @@ module _ (c : tie.After-count-end) where
       record {
         content = content-is (line start) (buffer start) whole call.ensures.1;
         count = count-is (line start) (buffer start) whole call.ensures.0 c.count-end.ensures;
-        size = call.auto.1.1.0;
+        size = call.auto.out;
       }
 
   inside : c.count-end.result ≤ length out
@@ -72,7 +72,7 @@ module _ (c : tie.After-count-end-2) where
   end = front.count-end.result
 
   behind-second : Holds (text s) (buffer s)
-      (back end (out front) c.write_number-2.new.1.1.0)
+      (back end (out front) c.write_number-2.new.out)
       (end + c.count-end-2.result)
   behind-second =
       let call = c.write_number-2 in
@@ -80,15 +80,15 @@ module _ (c : tie.After-count-end-2) where
       let whole = number-has-room (key' s) s.args.second part (room-behind (fronted front) (line' s) (fits s)) in
       holds_as
       (holds_more (fronted front) (line' s) (count-is (line' s) part whole call.ensures.0 c.count-end-2.ensures)
-      (content-is (line' s) part whole call.ensures.1) call.auto.1.1.0)
+      (content-is (line' s) part whole call.ensures.1) call.auto.out)
       (numbers-text (key s) s.args.first (key' s) s.args.second)
 
 -- ---- the needs
 add-end : tie.Need-overflow_add-end
-add-end c = record { fits = omega (arith, (behind-second c).count-end, (s c).requires, (s c).well_formed.0) }
+add-end c = record { fits = omega (arith, (behind-second c).count, (s c).requires, (s c).well_formed.0) }
 
 returns : tie.Need-returns
-returns c = ((behind-second c).count-end, (behind-second c).content)
+returns c = ((behind-second c).count, (behind-second c).content)
 
 pub number_lines_spec : {M : Type 1} → statement M
 number_lines_spec =

@@ -40,10 +40,10 @@ module _ (c : tie.Start) where
 -- ---- behind each call
 module _ (c : tie.After-count-end) where
   abbrev start : tie.Start
-  start = c.before.before.before.before.before.before.before.before
+  start = c.before.before.before.before.before.before.before.before.before.before
 
   abbrev out_at : List ℕ
-  out_at = c.write_numbers.new.1.1.1.1.0
+  out_at = c.write_numbers.new.out
 
   abbrev end_at : ℕ
   end_at = c.count-end.result
@@ -55,7 +55,7 @@ module _ (c : tie.After-count-end) where
       record {
         content = content-is (numbers 14 (at start)) (buffer start) whole call.ensures.1;
         count = count-is (numbers 14 (at start)) (buffer start) whole call.ensures.0 c.count-end.ensures;
-        size = call.auto.1.1.1.1.0;
+        size = call.auto.out;
       }
 
   inside_at : end_at ≤ length out_at
@@ -63,13 +63,13 @@ module _ (c : tie.After-count-end) where
 
 module _ (c : tie.After-count-end-2) where
   abbrev front : tie.After-count-end
-  front = c.before.before.before.before.before
+  front = c.before.before.before.before.before.before
 
   abbrev s_e : tie.Start
   s_e = start front
 
   abbrev out_e : List ℕ
-  out_e = back (end_at front) (out_at front) c.write_letters.new.1.1.1.0
+  out_e = back (end_at front) (out_at front) c.write_letters.new.out
 
   abbrev end_e : ℕ
   end_e = end_at front + c.count-end-2.result
@@ -79,45 +79,45 @@ module _ (c : tie.After-count-end-2) where
       let call = c.write_letters in
       let part = lent (end_at front) (out_at front) in
       let text = line_e (at s_e) (pair s_e) in
-      let whole = letters-has-room 101 (pair s_e).n (pair s_e).e part s_e.pre.0 s_e.pre.1.0
+      let whole = letters-has-room 101 (pair s_e).n (pair s_e).e part s_e.requires.0 s_e.requires.1.0
       (room-behind (behind_at front) text (fits_e s_e)) in
       holds_more (behind_at front) text (count-is text part whole call.ensures.0 c.count-end-2.ensures)
-      (content-is text part whole call.ensures.1) call.auto.1.1.1.0
+      (content-is text part whole call.ensures.1) call.auto.out
 
   inside_e : end_e ≤ length out_e
   inside_e = end-within behind_e (fits_e s_e)
 
 module _ (c : tie.After-count-end-3) where
   abbrev at_e : tie.After-count-end-2
-  at_e = c.before.before.before.before.before
+  at_e = c.before.before.before.before.before.before
 
   abbrev s : tie.Start
   s = s_e at_e
 
   behind_f : Holds (refusal_text (Refusal.DistanceRefuted (at s) (pair s))) (buffer s)
-      (back (end_e at_e) (out_e at_e) c.write_letters-2.new.1.1.1.0)
+      (back (end_e at_e) (out_e at_e) c.write_letters-2.new.out)
       (end_e at_e + c.count-end-3.result)
   behind_f =
       let call = c.write_letters-2 in
       let part = lent (end_e at_e) (out_e at_e) in
       let text = line_f (at s) (pair s) in
-      let whole = letters-has-room 102 (pair s).n (pair s).f part s.pre.0 s.pre.1.0
+      let whole = letters-has-room 102 (pair s).n (pair s).f part s.requires.0 s.requires.1.0
       (room-behind (behind_e at_e) text (fits_f s)) in
       holds_as
       (holds_more (behind_e at_e) text (count-is text part whole call.ensures.0 c.count-end-3.ensures)
-      (content-is text part whole call.ensures.1) call.auto.1.1.1.0)
+      (content-is text part whole call.ensures.1) call.auto.out)
       (refutation-parts (at s) (pair s))
 
 -- ---- the needs
 add-end : tie.Need-overflow_add-end
-add-end c = record { fits = omega (arith, (behind_e c).count-end, fits_e (s_e c), (s_e c).well_formed.0) }
+add-end c = record { fits = omega (arith, (behind_e c).count, fits_e (s_e c), (s_e c).well_formed.0) }
 
 add-end-2 : tie.Need-overflow_add-end-2
-add-end-2 c = record { fits = omega (arith, (behind_f c).count-end, (s c).requires.1.1, (s c).well_formed.0) }
+add-end-2 c = record { fits = omega (arith, (behind_f c).count, (s c).requires.1.1, (s c).well_formed.0) }
 
 returns : tie.Need-returns
-returns c = ((behind_f c).count-end, (behind_f c).content)
+returns c = ((behind_f c).count, (behind_f c).content)
 
 pub refutation_lines_spec : {M : Type 1} → statement M
 refutation_lines_spec =
-    tie.close (tie.spec (λ c κs. search rules) (λ c κs. search rules) (λ c. search rules) (λ c. search rules) (λ c. search rules) (λ c κs. search rules) (λ c κs. search rules) add-end (λ c. search rules) (λ c. search rules) (λ c. search rules) (λ c κs. search rules) (λ c κs. search rules) add-end-2 (λ c. search rules) returns)
+    tie.close (tie.spec (λ c κs. search rules) (λ c κs. search rules) (λ c. inside_at c.before) (λ c. inside_at c.before) (λ c. search rules) (λ c κs. search rules) (λ c κs. search rules) add-end (λ c. inside_e c.before) (λ c. inside_e c.before) (λ c. search rules) (λ c κs. search rules) (λ c κs. search rules) add-end-2 (λ c. (behind_f c).size) returns)

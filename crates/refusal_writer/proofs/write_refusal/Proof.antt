@@ -15,7 +15,7 @@ returns c =
     let other = c.before.before.before.before.before.before.before in
     let told = other.before in
     let a = told.args in
-    plain-answers a.refusal-1 (no-errors a.refusal-1 other.in-DistanceRefuted.in-DistanceRefuted-own.keys2) a.out-1.now told.values-values.result
+    plain-answers a.refusal (no-errors a.refusal other.in-DistanceRefuted.in-DistanceRefuted-own.keys2) a.out.now told.values-values.result
     told.values-values.ensures (call.ensures.0, call.ensures.1)
 
 returns-2 : tie.Need-returns
@@ -23,7 +23,7 @@ returns-2 c =
     let call = c.write_refutation in
     let known = c.before.before.before.before.before in
     let a = known.args in
-    let e = ap (λ refusal. write_refusal refusal a.out-1.now) (sym known.in-DistanceRefuted.is) in
+    let e = ap (λ refusal. write_refusal refusal a.out.now) (sym known.in-DistanceRefuted.is) in
     (call.ensures.0 ∙ ap (λ after. after.answer) e, call.ensures.1 ∙ ap (λ after. after.buffer) e)
 
 pub write_refusal_spec : {M : Type 1} → statement M

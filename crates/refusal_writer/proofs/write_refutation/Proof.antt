@@ -49,7 +49,7 @@ module _ (c : tie.After-digit_count) where
   length-is = omega (arith, length-refutation start.args.line (pair start), c.digit_count.ensures)
 
   size_fits : size < 2 ^ 64
-  size_fits = omega (arith, length-decimal-le start.args.line, c.digit_count.ensures, high, start.good)
+  size_fits = omega (arith, length-decimal-le start.args.line, c.digit_count.ensures, high, start.well_formed)
 
 -- ---- with room
 room : (c : tie.Else-out-digit_count) → length (text (start c.before)) ≤ length (buffer (start c.before))

@@ -32,7 +32,7 @@ module _ (c : tie.After-read_lines-reading) where
   abbrev reading : LinesReading
   reading = c.read_lines-reading.result
 
-  got : {used : ℕ} → reading.answer-1 ≡ Lines.Read used → LinesGot input reading
+  got : {used : ℕ} → reading.answer ≡ Lines.Read used → LinesGot input reading
   got told = lines-got input reading c.read_lines-reading.ensures _ told
 
 -- ---- behind the checks
@@ -48,14 +48,14 @@ module _ (c : tie.After-check_code-checks) where
       → code_fault was-got.read.claim_at was-got.read.code ≡ checked_refusal checked
   fault told =
       code-fault (input lines) (buffer lines) (reading lines) was-got _
-      (checked-fault (reading lines).claim_at (reading lines).code-1 c.check_code-checks.ensures told)
+      (checked-fault (reading lines).claim_at (reading lines).code c.check_code-checks.ensures told)
 
 -- ---- the needs
 returns : tie.Need-returns-in-Refused
 returns c =
     let call = c.write_refusal in
     let read = c.before.before.before.before.before in
-    let told = c.lines-1.given in
+    let told = c.lines.given in
     ends_with (input read) (buffer read)
     (stopped-report (input read) (buffer read) told.0.0
     (lines-stopped (input read) (reading read) read.read_lines-reading.ensures told.0.0 told.1))
@@ -90,12 +90,12 @@ returns-3 c =
     let passed = behind.in_default-answer.is in
     let read = lines checks in
     let hs = checks.check_code-checks.result.reduced in
-    let rest = ap (λ (s : List ℕ). write_checked (reading read).code-1 hs (reading read).claim_at s (buffer read))
+    let rest = ap (λ (s : List ℕ). write_checked (reading read).code hs (reading read).claim_at s (buffer read))
     behind.behind.ensures in
     ends_with (input read) (buffer read)
     (rest
     ∙ checked-report (input read) (buffer read) (reading read) (was-got checks) (fault checks passed) hs
-    (checked-rows (reading read).claim_at (reading read).code-1 checks.check_code-checks.ensures passed))
+    (checked-rows (reading read).claim_at (reading read).code checks.check_code-checks.ensures passed))
     call.ensures.0 call.ensures.1
 
 pub write_report_spec : {M : Type 1} → statement M

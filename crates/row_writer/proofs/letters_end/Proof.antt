@@ -16,18 +16,18 @@ start c = c.before.before.before.before.before
 
 -- The buffer with the letters at its front. It is as long as it was.
 abbrev filled : tie.After-slice_known-2-1 → List ℕ
-filled c = c.fill_letters.new.1.0 ++ drop (start c).args.n (start c).args.out.now
+filled c = c.fill_letters.new.out ++ drop (start c).args.n (start c).args.out.now
 
 size : (c : tie.After-slice_known-2-1) → length (filled c) ≡ length (start c).args.out.now
 size c =
     let a = (start c).args in
-    length-front-filled a.n a.row a.out-1.now _ (omega (arith, (start c).requires))
+    length-front-filled a.n a.row a.out.now _ (omega (arith, (start c).requires))
     c.fill_letters.ensures
 
 returns : tie.Need-returns
 returns c =
     let a = (start c).args in
-    letters-ended a.n a.row a.out-1.now _ (start c).requires c.fill_letters.ensures
+    letters-ended a.n a.row a.out.now _ (start c).requires c.fill_letters.ensures
 
 pub letters_end_spec : {M : Type 1} → statement M
 letters_end_spec =

@@ -39,14 +39,14 @@ letters-end-requires : tie.Need-letters_end-requires
 letters-end-requires c κs =
     let a = c.args in
     let front = a.key ∷ 61 ∷ [] in
-    let stored = sets a.out-1.now 0 front in
-    omega (arith, room c.before.before, length-lent 2 stored, length-sets a.out-1.now 0 front)
+    let stored = sets a.out.now 0 front in
+    omega (arith, room c.before.before, length-lent 2 stored, length-sets a.out.now 0 front)
 
 same_length : tie.Need-shape_of-out
 same_length c =
     let at = c.before.before in
     let out = (start at).args.out.now in
-    length_back 2 (sets out 0 (front at)) at.letters_end.new.0 at.letters_end.auto.0
+    length_back 2 (sets out 0 (front at)) at.letters_end.new.out at.letters_end.auto.out
     ∙ length-sets out 0 (front at)
 
 returns : tie.Need-returns
@@ -54,9 +54,9 @@ returns c =
     let at = c.before.before in
     let a = (start at).args in (
       sym (length-letters_line_text a.key a.n a.row),
-      front-laid (front at) a.out-1.now at.letters_end.new.0 a.n a.row (omega (arith, room (start at)))
+      front-laid (front at) a.out.now at.letters_end.new.out a.n a.row (omega (arith, room (start at)))
           at.letters_end.ensures
-          ∙ ap (λ text. laid text a.out-1.now) (sym (letters-text a.key a.n a.row)),
+          ∙ ap (λ text. laid text a.out.now) (sym (letters-text a.key a.n a.row)),
     )
 
 pub letters_line_spec : {M : Type 1} → statement M

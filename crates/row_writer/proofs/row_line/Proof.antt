@@ -61,7 +61,7 @@ same_length : tie.Need-shape_of-out
 same_length c =
     let letters = c.letters_end in
     let at = c.before.before.before.before in
-    length_back 3 (sets (buffer at) 0 (front at)) letters.new.0 letters.auto.0
+    length_back 3 (sets (buffer at) 0 (front at)) letters.new.out letters.auto.out
     ∙ length-sets (buffer at) 0 (front at)
 
 returns : tie.Need-returns
@@ -70,7 +70,7 @@ returns c =
     let at = c.before.before.before.before in
     let a = (start at).args in (
       sym (length-row_line_text a.key a.n a.row),
-      front-laid (front at) (buffer at) letters.new.0 a.n a.row (omega (arith, room (start at)))
+      front-laid (front at) (buffer at) letters.new.out a.n a.row (omega (arith, room (start at)))
           letters.ensures
           ∙ ap (λ text. laid text (buffer at)) (text-is at),
     )

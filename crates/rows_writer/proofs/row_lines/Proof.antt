@@ -79,7 +79,7 @@ module _ (c : tie.After-count-end invariant-loop decreases-loop) where
 
   whole : write_row (key turn) (n turn) (row turn) part
       ≡ record { answer = Written.Count (length text); buffer = laid text part }
-  whole = row-has-room (key turn) (n turn) (row turn) part (start turn).pre.0 (start turn).pre.1.0 fits
+  whole = row-has-room (key turn) (n turn) (row turn) part (start turn).requires.0 (start turn).requires.1.0 fits
 
   count : c.count-end.result ≡ length text
   count = count-is text part whole c.write_row.ensures.0 c.count-end.ensures
@@ -87,15 +87,15 @@ module _ (c : tie.After-count-end invariant-loop decreases-loop) where
   held : Holds (rows_text (key turn) (n turn) (take (turn.loop-place.place + 1) (rows turn)))
       (start turn).args.out.now
       (back turn.loop-place.end turn.loop-place.out
-      c.write_row.new.1.1.1.0)
+      c.write_row.new.out)
       (turn.loop-place.end + c.count-end.result)
   held =
       let call = c.write_row in
       holds_as
       (holds_more turn.loop-place.invariant.1 text count (content-is text part whole call.ensures.1)
-      call.auto.1.1.1.0)
+      call.auto.out)
       (first_more (key turn) (n turn) (rows turn) turn.loop-place.place
-      (omega (arith, few turn, turn.loop-place-test.taken)))
+      (omega (arith, few turn, turn.loop-place-test.true)))
 
 -- ---- the needs
 loop-holds : tie.Need-loop-place-init invariant-loop decreases-loop
@@ -118,7 +118,7 @@ add-end : tie.Need-overflow_add-end invariant-loop decreases-loop
 add-end c =
     let t = turn c in
     let long = length-row_line_text (key t) (n t) (row t) in
-    record { fits = omega (arith, room t, count c, long, (start t).good.0) }
+    record { fits = omega (arith, room t, count c, long, (start t).well_formed.0) }
 
 loop-again : tie.Need-loop-place-preserved invariant-loop decreases-loop
 loop-again c = (search rules, held c)
@@ -130,9 +130,9 @@ returns : tie.Need-returns invariant-loop decreases-loop
 returns c =
     let a = c.args in
     let l = c.loop-place in
-    let all : l.place ≡ a.count-end = omega (arith, l.invariant.0, c.loop-place-test.false) in (
+    let all : l.place ≡ a.count = omega (arith, l.invariant.0, c.loop-place-test.false) in (
       l.invariant.1.count ∙ ap (λ (i : ℕ). length (rows_text a.key a.n (take i a.rows))) all,
-      l.invariant.1.content ∙ ap (λ (i : ℕ). laid (rows_text a.key a.n (take i a.rows)) a.out-1.now) all,
+      l.invariant.1.content ∙ ap (λ (i : ℕ). laid (rows_text a.key a.n (take i a.rows)) a.out.now) all,
     )
 
 pub row_lines_spec : {M : Type 1} → statement M

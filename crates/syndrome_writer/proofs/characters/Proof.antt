@@ -37,7 +37,7 @@ loop-holds : tie.Need-loop-place-init invariant-loop decreases-loop
 loop-holds c = (search rules, laid-nothing _)
 
 slice-write-out : tie.Need-bounds-out-place invariant-loop decreases-loop
-slice-write-out c = omega (arith, size c.before.before.before, (start c.before.before.before).pre.1)
+slice-write-out c = omega (arith, size c.before.before.before, (start c.before.before.before).requires.1)
 
 loop-again : tie.Need-loop-place-preserved invariant-loop decreases-loop
 loop-again c =
@@ -62,7 +62,7 @@ returns c =
     let l = c.loop-place in
     l.invariant.1
     ∙ ap (λ text. laid text a.out.now)
-    (characters-whole a.r a.g a.p (room c.before) s.pre.0 l.place (search rules))
+    (characters-whole a.r a.g a.p (room c.before) s.requires.0 l.place (search rules))
 
 pub characters_spec : {M : Type 1} → statement M
 characters_spec =

@@ -19,13 +19,13 @@ within c = passed c.within_limits.ensures c.if-not-within_limits.false-raw
 returns : tie.Need-returns-then-not-within_limits
 returns c =
     let a = c.args in
-    outside-limits a.code a.p a.out-1.now (failed c.within_limits.ensures c.if-not-within_limits.true-raw)
+    outside-limits a.code a.p a.out.now (failed c.within_limits.ensures c.if-not-within_limits.true-raw)
 
 returns-2 : tie.Need-returns-then-out-code
 returns-2 c =
     let at = c.before.before in
     let a = (start at).args in
-    too_short a.code a.p a.out-1.now (within at) c.if-out-code.true
+    too_short a.code a.p a.out.now (within at) c.if-out-code.true
 
 characters-requires : tie.Need-characters-requires
 characters-requires c κs =
@@ -40,7 +40,7 @@ returns-3 c =
     let behind = call.before.before.before in
     let at = behind.before.before in
     let a = (start at).args in
-    has_room a.code a.p a.out-1.now (within at) behind.if-out-code.false call.characters.ensures
+    has_room a.code a.p a.out.now (within at) behind.if-out-code.false call.characters.ensures
 
 pub write_characters_spec : {M : Type 1} → statement M
 write_characters_spec =

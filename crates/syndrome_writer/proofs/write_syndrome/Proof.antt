@@ -20,7 +20,7 @@ counted_back r (SyndromeAnswer.Refused refusal) = refl
 
 told : (c : tie.After-write_characters) (case : Written) → c.write_characters.result ≡ case
     → let a = c.args in
-    uncounted case ≡ (write_syndrome a.code a.p a.out-1.now).answer
+    uncounted case ≡ (write_syndrome a.code a.p a.out.now).answer
 told c case is = ap uncounted (sym is ∙ c.write_characters.ensures.0) ∙ counted_back _ _
 
 returns : tie.Need-returns-in-Count

@@ -8,13 +8,13 @@ use Rattle.text_writer.proofs.write_text.Tie as tie
 
 returns : tie.Need-returns-then-out-text
 returns c =
-    let a = c.args in answers-short a.text.now a.out-1.now refl c.if-out-text.true
+    let a = c.args in answers-short a.text.now a.out.now refl c.if-out-text.true
 
 returns-2 : tie.Need-returns
 returns-2 c =
     let behind = c.before.before.before.before in
     let a = behind.args in
-    answers-whole a.text.now a.out-1.now refl (omega (arith, behind.if-out-text.false)) refl
+    answers-whole a.text.now a.out.now refl (omega (arith, behind.if-out-text.false)) refl
     c.put.ensures
 
 pub write_text_spec : {M : Type 1} → statement M

@@ -34,10 +34,10 @@ module _ (c : tie.After-digit_count-2) where
       ap (λ (k : ℕ). c.digit_count.result + c.digit_count-2.result + 6 + (code.r + 2 * k) * (code.n + 4)
       + (code.n + 3)) c.pair_count.ensures
       ∙ ap₂ (λ n d. n + d + 6 + (code.r + 2 * pair_count code.n code.r) * (code.n + 4) + (code.n + 3))
-      c.digit_count.ensures c.digit_count-2.ensures ∙ sym (sheet-length code (sized start) start.pre)
+      c.digit_count.ensures c.digit_count-2.ensures ∙ sym (sheet-length code (sized start) start.requires)
 
   sum-small : sum ≤ longest_sheet
-  sum-small = omega (arith, sum_is, sheet_text-le code (sized start) start.pre)
+  sum-small = omega (arith, sum_is, sheet_text-le code (sized start) start.requires)
 
 few : (c : tie.After-pair_count) → c.args.code.r + 2 * c.pair_count.result ≤ 3 * most_qubits
 unfolding pair_count

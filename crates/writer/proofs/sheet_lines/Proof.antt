@@ -50,10 +50,10 @@ module _ (c : tie.Start) where
 -- ---- behind each call
 module _ (c : tie.After-count-end) where
   abbrev start : tie.Start
-  start = c.before.before.before.before.before.before.before.before
+  start = c.before.before.before.before.before.before.before.before.before.before
 
   abbrev out_n : List ℕ
-  out_n = c.write_numbers.new.1.1.1.1.0
+  out_n = c.write_numbers.new.out
 
   abbrev end_n : ℕ
   end_n = c.count-end.result
@@ -65,7 +65,7 @@ module _ (c : tie.After-count-end) where
       record {
         content = content-is (numbers (code start)) (buffer start) whole call.ensures.1;
         count = count-is (numbers (code start)) (buffer start) whole call.ensures.0 c.count-end.ensures;
-        size = call.auto.1.1.1.1.0;
+        size = call.auto.out;
       }
 
   inside_n : end_n ≤ length out_n
@@ -79,7 +79,7 @@ module _ (c : tie.After-count-end-2) where
   s_r = start at_n
 
   abbrev out_r : List ℕ
-  out_r = back (end_n at_n) (out_n at_n) c.write_families.new.1.0
+  out_r = back (end_n at_n) (out_n at_n) c.write_families.new.out
 
   abbrev end_r : ℕ
   end_r = end_n at_n + c.count-end-2.result
@@ -91,20 +91,20 @@ module _ (c : tie.After-count-end-2) where
       let whole = families-has-room (code s_r) part (qubits s_r).0 (qubits s_r).1
       (room-behind (behind_numbers at_n) (rows s_r) (fits_rows s_r)) in
       holds_more (behind_numbers at_n) (rows s_r) (count-is (rows s_r) part whole call.ensures.0 c.count-end-2.ensures)
-      (content-is (rows s_r) part whole call.ensures.1) call.auto.1.0
+      (content-is (rows s_r) part whole call.ensures.1) call.auto.out
 
   inside_r : end_r ≤ length out_r
   inside_r = end-within behind_rows (fits_rows s_r)
 
 module _ (c : tie.After-count-end-3) where
   abbrev at_r : tie.After-count-end-2
-  at_r = c.before.before.before.before.before
+  at_r = c.before.before.before.before.before.before
 
   abbrev s : tie.Start
   s = s_r at_r
 
   behind_w : Holds (sheet_text (code s)) (buffer s)
-      (back (end_r at_r) (out_r at_r) c.write_letters.new.1.1.1.0)
+      (back (end_r at_r) (out_r at_r) c.write_letters.new.out)
       (end_r at_r + c.count-end-3.result)
   behind_w =
       let call = c.write_letters in
@@ -113,19 +113,19 @@ module _ (c : tie.After-count-end-3) where
       (room-behind (behind_rows at_r) (claim s) (fits_w s)) in
       holds_as
       (holds_more (behind_rows at_r) (claim s) (count-is (claim s) part whole call.ensures.0 c.count-end-3.ensures)
-      (content-is (claim s) part whole call.ensures.1) call.auto.1.1.1.0)
+      (content-is (claim s) part whole call.ensures.1) call.auto.out)
       (sheet-parts (code s))
 
 -- ---- the needs
 add-end : tie.Need-overflow_add-end
-add-end c = record { fits = omega (arith, (behind_rows c).count-end, fits_rows (s_r c), (s_r c).well_formed.0) }
+add-end c = record { fits = omega (arith, (behind_rows c).count, fits_rows (s_r c), (s_r c).well_formed.0) }
 
 add-end-2 : tie.Need-overflow_add-end-2
-add-end-2 c = record { fits = omega (arith, (behind_w c).count-end, (s c).requires.1, (s c).well_formed.0) }
+add-end-2 c = record { fits = omega (arith, (behind_w c).count, (s c).requires.1, (s c).well_formed.0) }
 
 returns : tie.Need-returns
-returns c = ((behind_w c).count-end, (behind_w c).content)
+returns c = ((behind_w c).count, (behind_w c).content)
 
 pub sheet_lines_spec : {M : Type 1} → statement M
 sheet_lines_spec =
-    tie.close (tie.spec (λ c κs. search rules) (λ c κs. search rules) (λ c. search rules) (λ c. search rules) (λ c. search rules) (λ c κs. search rules) (λ c κs. search rules) add-end (λ c. search rules) (λ c. search rules) (λ c. search rules) (λ c κs. search rules) (λ c κs. search rules) add-end-2 (λ c. search rules) returns)
+    tie.close (tie.spec (λ c κs. search rules) (λ c κs. search rules) inside_n inside_n (λ c. search rules) (λ c κs. search rules) (λ c κs. search rules) add-end (λ c. inside_r c.before) (λ c. inside_r c.before) (λ c. search rules) (λ c κs. search rules) (λ c κs. search rules) add-end-2 (λ c. (behind_w c).size) returns)

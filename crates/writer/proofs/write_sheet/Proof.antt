@@ -33,7 +33,7 @@ returns : tie.Need-returns-then-not-within_limits
 unfolding untouched
 returns c =
     let a = c.args in
-    let e = sym (outside-limits a.code a.out-1.now (failed c.within_limits.ensures c.if-not-within_limits.true-raw)) in
+    let e = sym (outside-limits a.code a.out.now (failed c.within_limits.ensures c.if-not-within_limits.true-raw)) in
     (ap (λ after. after.answer) e, ap (λ after. after.buffer) e)
 
 sheet-length-requires : tie.Need-sheet_length-requires
@@ -44,7 +44,7 @@ unfolding untouched
 returns-2 c =
     let behind = c.before.before in
     let a = (start behind).args in
-    let e = sym (too_short a.code a.out-1.now (within behind) (omega (arith, c.sheet_length.ensures))) in
+    let e = sym (too_short a.code a.out.now (within behind) (omega (arith, c.sheet_length.ensures))) in
     (ap (λ after. after.answer) e, ap (λ after. after.buffer) e)
 
 sheet-lines-requires : tie.Need-sheet_lines-requires
@@ -55,7 +55,7 @@ returns-3 c =
     let lines = c.before.before in
     let behind = lines.before.before in
     let a = (start (lawful behind)).args in
-    let e = sym (has_room a.code a.out-1.now (within (lawful behind)) (room behind)) in (
+    let e = sym (has_room a.code a.out.now (within (lawful behind)) (room behind)) in (
       ap Written.Count lines.sheet_lines.ensures.0 ∙ ap (λ after. after.answer) e,
       lines.sheet_lines.ensures.1 ∙ ap (λ after. after.buffer) e,
     )
