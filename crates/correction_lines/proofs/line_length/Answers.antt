@@ -1,13 +1,18 @@
-use Rattle.std.proofs.Common.{rules, ◌≡◌, ◌≤◌, leb, length, ℕ, ◌+◌, ◌-◌, ◌*◌, ◌<◌, ◌/◌, ◌%◌, Bool, true, false, nat_eq, nat_lt, List, [], ◌∷◌, ◌++◌, slice_index_or, slice_set, bit_and, bit_or, Fits, w8, w32, w64, Bor, MutBor}
-use Rattle.code_record.specs.Record.{most_qubits}
+-- The length of each case's line.
+use mathlib.Core.Path.{ap, sym, ◌∙◌}
+use lib.ListN.{length}
+use Rattle.corrections.specs.declared.Correction.{Correction}
 use Rattle.correction_writer.specs.Lines.{correction_text}
-use Rattle.correction_lines.specs.CorrectionLines.{corrections_text, corrections_fit}
+use Rattle.correction_writer.proofs.Lines.{length_none, length_found}
 use Rattle.correction_lines.proofs.line_length.Goals as goal
 
--- src/lib.rt:22:1
 pub returns-in-Found : goal.returns-in-Found
-returns-in-Found c = ?
+returns-in-Found c =
+    let n = c.args.n in
+    sym (length_found n c.in-Found.field-0)
+    ∙ ap (λ (k : Correction). length (correction_text n k)) (sym c.in-Found.is)
 
--- src/lib.rt:22:1
 pub returns-in-None : goal.returns-in-None
-returns-in-None c = ?
+returns-in-None c =
+    let n = c.args.n in
+    sym (length_none n) ∙ ap (λ (k : Correction). length (correction_text n k)) (sym c.in-None.is)

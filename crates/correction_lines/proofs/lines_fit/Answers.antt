@@ -1,33 +1,78 @@
-use Rattle.std.proofs.Common.{rules, ◌≡◌, ◌≤◌, leb, length, ℕ, ◌+◌, ◌-◌, ◌*◌, ◌<◌, ◌/◌, ◌%◌, Bool, true, false, nat_eq, nat_lt, List, [], ◌∷◌, ◌++◌, slice_index_or, slice_set, bit_and, bit_or, Fits, w8, w32, w64, Bor, MutBor}
-use Rattle.code_record.specs.Record.{most_qubits}
+-- Behind each line the room that is left is known, and the lines that were passed stand before those of the rest.
+use mathlib.Core.List.{List}
+use mathlib.Core.Path.{◌≡◌, ap, sym, subst, ◌∙◌}
+use Prim.Native.Nat.{ℕ, ◌+◌, ◌-◌, ◌≤◌}
+use native.Mathlib.Nat.{lt_of_le_of_lt}
+use native.Mathlib.Omega.{arith}
+use lib.ListN.{length, drop}
+use borrow.Author.Rules.{rules}
+use Rattle.sheet.proofs.Parts.{tail_of}
+use Rattle.letter_sums.specs.declared.LetterWords.{LetterWords}
+use Rattle.syndrome_reader.specs.declared.SyndromeRead.{SyndromeRead}
+use Rattle.syndrome_lines.specs.SyndromeLines.{mask_line}
+use Rattle.syndrome_lines.proofs.Lines.{mask-few}
+use Rattle.corrections.specs.declared.Correction.{Correction}
 use Rattle.correction_writer.specs.Lines.{correction_text}
-use Rattle.correction_lines.specs.CorrectionLines.{corrections_text, corrections_fit}
+use Rattle.correction_lines.proofs.Fits.{Left, left-all, left-more, fit-off, fit_all, no-fit}
+use Rattle.correction_lines.proofs.Lines.{line_for, line-within}
 use Rattle.correction_lines.proofs.lines_fit.Goals as goal
 
--- src/lib.rt:39:5
+-- Each answer reads the line at the place as `told`, and knows the length of its correction's line as `counted`.
 pub loop-place-init : goal.loop-place-init
-loop-place-init c = ?
+loop-place-init c = let a = c.args in left-all a.words a.t a.r a.syndromes.now a.room
 
--- src/lib.rt:41:13
 pub returns-in_default : goal.returns-in_default
-returns-in_default c = ?
+returns-in_default c =
+    let a = c.args in
+    let told = sym (c.read_syndrome_line.ensures ∙ ap (mask_line a.r) (tail_of c.loop-place.place a.syndromes.now)) in
+    fit-off a.words a.t a.r a.syndromes.now a.room c.loop-place.invariant (told ∙ c.in_default.is)
 
--- src/lib.rt:48:13
 pub returns-then-left-length : goal.returns-then-left-length
-returns-then-left-length c = ?
+returns-then-left-length c =
+    let a = c.args in
+    let told = sym (c.read_syndrome_line.ensures ∙ ap (mask_line a.r) (tail_of c.loop-place.place a.syndromes.now))
+        ∙ c.in-Mask.is in
+    let counted = c.line_length-length.ensures
+        ∙ ap (λ (k : Correction). length (correction_text a.words.qubits k)) c.correct_by.ensures in
+    no-fit a.words a.t a.r a.syndromes.now a.room c.loop-place.invariant told
+    (omega (arith, c.if-left-length.true, counted))
 
--- src/lib.rt:51:18
 pub overflow_add-place : goal.overflow_add-place
-overflow_add-place c = ?
+overflow_add-place c =
+    let a = c.args in
+    let told = sym (c.read_syndrome_line.ensures ∙ ap (mask_line a.r) (tail_of c.loop-place.place a.syndromes.now))
+        ∙ c.in-Mask.is in
+    omega (arith, mask-few a.r _ told)
 
--- src/lib.rt:51:9
 pub overflow_add-place-in-loop-place : goal.overflow_add-place-in-loop-place
-overflow_add-place-in-loop-place c = ?
+overflow_add-place-in-loop-place c =
+    let a = c.args in
+    let told = sym (c.read_syndrome_line.ensures ∙ ap (mask_line a.r) (tail_of c.loop-place.place a.syndromes.now))
+        ∙ c.in-Mask.is in
+    let within = line-within a.words a.t a.r a.syndromes.now c.loop-place.invariant.passed told in
+    record { fits = lt_of_le_of_lt within (search rules) }
 
--- src/lib.rt:39:5
+pub loop-place-smaller : goal.loop-place-smaller
+loop-place-smaller c =
+    let a = c.args in
+    let told = sym (c.read_syndrome_line.ensures ∙ ap (mask_line a.r) (tail_of c.loop-place.place a.syndromes.now))
+        ∙ c.in-Mask.is in
+    let within = line-within a.words a.t a.r a.syndromes.now c.loop-place.invariant.passed told in
+    omega (arith, within)
+
 pub loop-place-preserved : goal.loop-place-preserved
-loop-place-preserved c = ?
+loop-place-preserved c =
+    let a = c.args in
+    let l = c.loop-place in
+    let told = sym (c.read_syndrome_line.ensures ∙ ap (mask_line a.r) (tail_of c.loop-place.place a.syndromes.now))
+        ∙ c.in-Mask.is in
+    let counted = c.line_length-length.ensures
+        ∙ ap (λ (k : Correction). length (correction_text a.words.qubits k)) c.correct_by.ensures in
+    subst (λ (length : ℕ). Left a.words a.t a.r a.syndromes.now a.room (l.place + (a.r + 3)) (l.left - length))
+    (sym counted)
+    (left-more a.words a.t a.r a.syndromes.now a.room l.invariant told
+    (omega (arith, c.if-left-length.false, counted)))
 
--- src/lib.rt:33:1
 pub returns : goal.returns
-returns c = ?
+returns c =
+    let a = c.args in fit_all a.words a.t a.r a.syndromes.now a.room c.loop-place.invariant (search rules)
