@@ -1,4 +1,4 @@
-//! Links the archive that `rt staticlib rack` writes.
+//! Links the archive that `tools/build` writes.
 use std::path::Path;
 
 fn main() {
@@ -7,7 +7,7 @@ fn main() {
     let archive = folder.join("librack.a");
     assert!(
         archive.is_file(),
-        "there is no target/staticlib/librack.a: run `rt staticlib rack` first"
+        "there is no target/staticlib/librack.a: run `tools/build` first"
     );
     println!("cargo:rerun-if-changed={}", archive.display());
     println!("cargo:rustc-link-search=native={}", folder.display());

@@ -9,7 +9,7 @@ fn files(folder: &Path, found: &mut Vec<PathBuf>) {
     for entry in fs::read_dir(folder).unwrap() {
         let path = entry.unwrap().path();
         let name = path.file_name().unwrap().to_str().unwrap();
-        if path.is_dir() && name != "target" && name != ".git" {
+        if path.is_dir() && !["target", "out", ".git"].contains(&name) {
             files(&path, found);
         } else if [".md", ".rt", ".antt"]
             .iter()

@@ -1,4 +1,4 @@
-//! `include/reinoften.h` declares in C what `crates/rack` has in Rattle and `examples/rust/src/calls.rs` in Rust. No
+//! `include/reinoften.h` declares in C what `crates/rack_c` has in Rattle and `examples/rust/src/calls.rs` in Rust. No
 //! proof is about the header, so the three are held to each other here, symbol by symbol.
 use std::collections::BTreeMap;
 use std::fs;
@@ -202,8 +202,8 @@ fn constant(text: &str, name: &str) -> usize {
 fn functions_agree() {
     let declared = c_functions();
     assert_eq!(declared.len(), 7);
-    let calls = rattle("rack");
-    let exported = "#[no_mangle] pub extern \"C\" fn ";
+    let calls = rattle("rack_c");
+    let exported = "#[unsafe(no_mangle)] pub extern \"C\" fn ";
     assert_eq!(declared, functions(&calls, exported, RATTLE));
     let calls = rust();
     let block = between(&calls, "extern \"C\" {", "}").unwrap();
@@ -241,7 +241,7 @@ fn rooms_agree() {
     let record = rattle("code_record");
     let n = constant(&record, "MOST_QUBITS");
     let report = text("crates/reporting/specs/Report.antt", "--", "\n");
-    let longest_report = between(&report, "longestReport = ", " ").unwrap();
+    let longest_report = between(&report, "longest_report = ", " ").unwrap();
     let rooms = [
         ("SYNDROME_ROOM", n - 1),
         ("LETTERS_ROOM", n),

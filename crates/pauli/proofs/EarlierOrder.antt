@@ -64,7 +64,10 @@ letters = I ∷ X ∷ Y ∷ Z ∷ []
 
 letter-at-rank : (l : Letter) → get_or letters (rank l) I ≡ l
 unfolding rank
-letter-at-rank l = elim l [ I ↦ refl | X ↦ refl | Y ↦ refl | Z ↦ refl ]
+letter-at-rank I = refl
+letter-at-rank X = refl
+letter-at-rank Y = refl
+letter-at-rank Z = refl
 
 rank-injective : (l m : Letter) → rank l ≡ rank m → l ≡ m
 rank-injective l m e = cc (letter-at-rank l, letter-at-rank m)
@@ -177,11 +180,17 @@ module _ (tails : Letter → List (List Letter)) where
 
 -- What a first letter leaves of the weight suc v.
 abbrev rest : ℕ → Letter → ℕ
-rest v l = elim l [ I ↦ suc v | X ↦ v | Y ↦ v | Z ↦ v ]
+rest v I = suc v
+rest v X = v
+rest v Y = v
+rest v Z = v
 
 letter-and-rest : (v : ℕ) (l : Letter) → letter_weight l + rest v l ≡ suc v
 unfolding letter_weight
-letter-and-rest v l = elim l [ I ↦ omega arith | X ↦ omega arith | Y ↦ omega arith | Z ↦ omega arith ]
+letter-and-rest v I = omega arith
+letter-and-rest v X = omega arith
+letter-and-rest v Y = omega arith
+letter-and-rest v Z = omega arith
 
 abbrev tails_of : ℕ → ℕ → Letter → List (List Letter)
 tails_of n v l = strings n (rest v l)

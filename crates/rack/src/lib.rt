@@ -1,5 +1,5 @@
-// The calls for programs in C and Rust, which include/reinoften.h declares: each makes the call of the same work, and
-// answers in numbers.
+// The calls for programs in C and Rust: each makes the call of the same work, and answers in numbers. `rack_c` exports
+// them, and include/reinoften.h declares them.
 #![tactic(auto)]
 
 ghost use Rattle.std.specs.Prelude.{◌≡◌};
@@ -11,16 +11,14 @@ use pauli::Pauli;
 use rack_answers::{Answer, CorrectionAnswer, SheetAnswer};
 
 // A sheet is admitted, with its record, or refused for its first fault.
-#[unsafe(no_mangle)]
-pub extern "C" fn reinoften_read_sheet(sheet: &[u8]) -> SheetAnswer
+pub fn reinoften_read_sheet(sheet: &[u8]) -> SheetAnswer
     ensures { result ≡ read_call sheet.now }
 {
     SheetAnswer::of_reading(sheet_reading::read_sheet(sheet))
 }
 
 // The sheet of a record.
-#[unsafe(no_mangle)]
-pub extern "C" fn reinoften_write_sheet(code: Code, out: &mut [u8]) -> Answer
+pub fn reinoften_write_sheet(code: Code, out: &mut [u8]) -> Answer
     ensures value { result ≡ (sheet_call code out.old).answer }
     ensures out_after { out.new ≡ (sheet_call code out.old).buffer }
 {
@@ -28,8 +26,7 @@ pub extern "C" fn reinoften_write_sheet(code: Code, out: &mut [u8]) -> Answer
 }
 
 // The canonical generators of a record, a line for each.
-#[unsafe(no_mangle)]
-pub extern "C" fn reinoften_canonical(code: Code, out: &mut [u8]) -> Answer
+pub fn reinoften_canonical(code: Code, out: &mut [u8]) -> Answer
     ensures value { result ≡ (canonical_call code out.old).answer }
     ensures out_after { out.new ≡ (canonical_call code out.old).buffer }
 {
@@ -37,8 +34,7 @@ pub extern "C" fn reinoften_canonical(code: Code, out: &mut [u8]) -> Answer
 }
 
 // The syndrome of a Pauli, a character for each generator.
-#[unsafe(no_mangle)]
-pub extern "C" fn reinoften_syndrome(code: Code, error: Pauli, out: &mut [u8]) -> Answer
+pub fn reinoften_syndrome(code: Code, error: Pauli, out: &mut [u8]) -> Answer
     ensures value { result ≡ (syndrome_call code error out.old).answer }
     ensures out_after { out.new ≡ (syndrome_call code error out.old).buffer }
 {
@@ -46,8 +42,7 @@ pub extern "C" fn reinoften_syndrome(code: Code, error: Pauli, out: &mut [u8]) -
 }
 
 // The correction for a syndrome that is given as characters, as letters.
-#[unsafe(no_mangle)]
-pub extern "C" fn reinoften_decode(code: Code, syndrome: &[u8], out: &mut [u8]) -> Answer
+pub fn reinoften_decode(code: Code, syndrome: &[u8], out: &mut [u8]) -> Answer
     ensures value { result ≡ (decode_call code syndrome.now out.old).answer }
     ensures out_after { out.new ≡ (decode_call code syndrome.now out.old).buffer }
 {
@@ -55,16 +50,14 @@ pub extern "C" fn reinoften_decode(code: Code, syndrome: &[u8], out: &mut [u8]) 
 }
 
 // The correction for a syndrome that is given as a mask, by value.
-#[unsafe(no_mangle)]
-pub extern "C" fn reinoften_correct(code: Code, syndrome: u32) -> CorrectionAnswer
+pub fn reinoften_correct(code: Code, syndrome: u32) -> CorrectionAnswer
     ensures { result ≡ correct_call code syndrome }
 {
     CorrectionAnswer::of_decoded(mask_decoding::decode_mask(code, syndrome))
 }
 
 // The report of a sheet and the syndromes behind it.
-#[unsafe(no_mangle)]
-pub extern "C" fn reinoften_report(input: &[u8], out: &mut [u8]) -> Answer
+pub fn reinoften_report(input: &[u8], out: &mut [u8]) -> Answer
     ensures value { result ≡ (report_call input.now out.old).answer }
     ensures out_after { out.new ≡ (report_call input.now out.old).buffer }
 {

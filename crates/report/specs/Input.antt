@@ -1,9 +1,6 @@
 -- How much was read.
-use Rattle.std.specs.Prelude.{List, ℕ}
-use Rattle.io.specs.Counts.{IsPrefixLen}
-use Rattle.report.specs.declared.Input.{Input}
+use Rattle.std.specs.Prelude.{◌≡◌, ℕ, ◌≤◌, List, length, take}
 
--- So many bytes were read as lie within the buffer, or a read failed.
-abbrev pub Within : Input → List ℕ → Type 0
-Within (Input.Got len) s = IsPrefixLen len s
-Within Input.Failed s = Unit {0}
+-- So many bytes are the start of the list.
+abbrev pub IsPrefixLen : ℕ → List ℕ → Type 0
+IsPrefixLen n xs = (n ≤ length xs) × (n ≡ length (take n xs))

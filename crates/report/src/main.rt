@@ -1,37 +1,26 @@
 // The program: a sheet and its syndromes on standard input, their report on standard output.
 #![tactic(auto)]
 
-ghost use Rattle.std.specs.Prelude.{◌≡◌, ◌≤◌, length, take};
+ghost use Rattle.std.specs.Prelude.{◌≡◌, ◌≤◌, length, take, IfOk};
 ghost use Rattle.reporting.specs.Report.{longest_report, report_text};
-ghost use Rattle.report.specs.Input.{Within};
+ghost use Rattle.report.specs.Input.{IsPrefixLen};
 
-use libc::{STDIN_FILENO, STDOUT_FILENO};
 use report_writer::write_report;
+use std::io::{self, Read};
 
-// What was read: so many bytes, up to the end of the input or of the buffer; or a read failed.
-#[derive(Clone, Copy)]
-enum Input {
-    Got(usize),
-    Failed,
-}
-
-// Reads standard input to its end, or as far as the buffer goes.
-fn read_input(buffer: &mut [u8]) -> Input
-    ensures { Within result buffer.new }
+// Reads to the end of the input, or as far as the buffer goes. How many bytes were put at the buffer's start.
+fn read_input<R: Read>(input: &mut R, buffer: &mut [u8]) -> io::Result<usize>
+    ensures { IfOk result (λ len. IsPrefixLen len buffer.new) }
 {
     let mut end: usize = 0;
     while end < buffer.len() {
-        let got = libc::read(STDIN_FILENO, &mut buffer[end..]);
-        if got < 0 {
-            return Input::Failed;
-        }
-        let count = io::count(got, &buffer[end..]);
+        let count = input.read(&mut buffer[end..])?;
         if count == 0 {
-            return Input::Got(end);
+            return Ok(end);
         }
         end += count;
     }
-    Input::Got(end)
+    Ok(end)
 }
 
 // The report of an input, at the start of a buffer that holds every report, and its length.
@@ -44,16 +33,10 @@ fn report(input: &[u8], out: &mut [u8]) -> usize
 }
 
 // Where a read fails there is no report, since the input is not known; where a write fails the report may be cut off.
-// Both are told on standard error.
-fn main() {
-    let mut input = io::large_buffer();
-    let Input::Got(len) = read_input(&mut input) else {
-        os::fail(b"standard input");
-        return;
-    };
-    let mut output = io::large_buffer();
+fn main(rt: HostRuntime) -> io::Result<()> {
+    let mut input = [0u8; 65536];
+    let len = read_input(&mut rt.reader(), &mut input)?;
+    let mut output = [0u8; 65536];
     let count = report(&input[..len], &mut output);
-    if !io::write_all(STDOUT_FILENO, &output[..count]) {
-        os::fail(b"standard output");
-    }
+    rt.write_all(&output[..count])
 }

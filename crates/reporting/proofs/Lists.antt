@@ -29,5 +29,6 @@ pub member-of-all : {A : Type 0} (P : A → Type 0) → ((x : A) → IsProp (P x
 member-of-all {A} P prop xs all x m = ∥∥₁_elim m (prop x) (go xs all)
   where
     go : (xs : List A) → All P xs → Memᴰ x xs → P x
+    go [] all m = elim m [ ]
     go (y ∷ ys) all (Memᴰ.head e) = subst P (sym e) all.0
     go (y ∷ ys) all (Memᴰ.tail d) = go ys all.1 d

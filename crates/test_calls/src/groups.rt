@@ -13,7 +13,7 @@ use reduced_rows::ReducedRows;
 use refusals::{Checked, Family};
 use test_cases::{above, changed, print, print_number, print_refusal, turned, with_bits};
 
-pub fn answer_group(text: &[u8], change: usize) {
+pub fn answer_group(rt: &HostRuntime, text: &[u8], change: usize) {
     let reading = sheet_end::read_form(text);
     let code = reading.code;
     let n = code.n;
@@ -22,12 +22,12 @@ pub fn answer_group(text: &[u8], change: usize) {
     let elimination = elimination::eliminate(changed);
     let answer = elimination.answer;
     let reduced = elimination.reduced;
-    print_checked(answer, reduced.count);
+    print_checked(rt, answer, reduced.count);
     if reduced.count == 0 && change == 0 {
         return;
     }
-    print_probes(changed, reduced, n, r);
-    write_thrice(Writer::Canonical, changed, lines_length(n, r));
+    print_probes(rt, changed, reduced, n, r);
+    write_thrice(rt, Writer::Canonical, changed, lines_length(n, r));
 }
 
 // How many bytes the lines of r rows of n letters have. In a record that was read both are small, and the remainders
@@ -39,50 +39,50 @@ fn lines_length(n: usize, r: usize) -> usize
     r % 32 * line
 }
 
-fn print_checked(answer: Checked, count: usize) {
-    print(b"group");
+fn print_checked(rt: &HostRuntime, answer: Checked, count: usize) {
+    print(rt, b"group");
     match answer {
-        Checked::Passed => print_number(count),
-        Checked::Refused(refusal) => print_refusal(refusal),
+        Checked::Passed => print_number(rt, count),
+        Checked::Refused(refusal) => print_refusal(rt, refusal),
     }
-    print(b"\n");
+    print(rt, b"\n");
 }
 
 // The memberships of all probes of a record that was read with n and r.
-fn print_probes(code: Code, reduced: ReducedRows, n: usize, r: usize) {
-    print(b"probes");
+fn print_probes(rt: &HostRuntime, code: Code, reduced: ReducedRows, n: usize, r: usize) {
+    print(rt, b"probes");
     let pairs = pair_count(n, r);
-    print_family(code, reduced, Family::LogicalX, pairs);
-    print_family(code, reduced, Family::LogicalZ, pairs);
+    print_family(rt, code, reduced, Family::LogicalX, pairs);
+    print_family(rt, code, reduced, Family::LogicalZ, pairs);
     let w = code.w;
-    print_membership(code, reduced, w);
-    print_membership(code, reduced, turned(w, 1));
-    print_membership(code, reduced, with_bits(w, above(n), 0));
-    print_membership(code, reduced, with_bits(w, 0, above(n)));
-    print(b"\n");
+    print_membership(rt, code, reduced, w);
+    print_membership(rt, code, reduced, turned(w, 1));
+    print_membership(rt, code, reduced, with_bits(w, above(n), 0));
+    print_membership(rt, code, reduced, with_bits(w, 0, above(n)));
+    print(rt, b"\n");
 }
 
-fn print_family(code: Code, reduced: ReducedRows, family: Family, count: usize) {
+fn print_family(rt: &HostRuntime, code: Code, reduced: ReducedRows, family: Family, count: usize) {
     for place in 0..count {
-        print_membership(code, reduced, code.row(family, place));
+        print_membership(rt, code, reduced, code.row(family, place));
     }
 }
 
 // The sign of the member with p's masks, or that there is none; a mark behind it where `contains` says otherwise.
-fn print_membership(code: Code, reduced: ReducedRows, p: Pauli) {
+fn print_membership(rt: &HostRuntime, code: Code, reduced: ReducedRows, p: Pauli) {
     let mut member = true;
     match membership::membership_of(code, p) {
-        Membership::Member(sign) => print(&[b' ', sign.byte()]),
+        Membership::Member(sign) => print(rt, &[b' ', sign.byte()]),
         Membership::NotMember => {
-            print(b" no");
+            print(rt, b" no");
             member = false;
         }
         Membership::Refused(refusal) => {
-            print_refusal(refusal);
+            print_refusal(rt, refusal);
             return;
         }
     }
     if reduced.contains(p) != member {
-        print(b"!");
+        print(rt, b"!");
     }
 }

@@ -25,27 +25,28 @@ use single_lines::answer_lines;
 use test_cases::{Case, print};
 
 // Answers cases up to the end of the input, and 65,536 at most, so that the loop has an end.
-fn main() {
-    let mut text = io::large_buffer();
+fn main(rt: HostRuntime) {
+    let mut text = [0u8; 65536];
+    let mut input = rt.reader();
     for _ in 0..65536usize {
-        let Case::Got { kind, change, len } = test_cases::read_case(&mut text) else {
+        let Case::Got { kind, change, len } = test_cases::read_case(&mut input, &mut text) else {
             return;
         };
-        answer(kind, change, &text[0..len]);
+        answer(&rt, kind, change, &text[0..len]);
     }
 }
 
-fn answer(kind: u8, change: usize, text: &[u8]) {
+fn answer(rt: &HostRuntime, kind: u8, change: usize, text: &[u8]) {
     match kind {
-        b'p' => answer_products(text),
-        b's' => answer_sheet(text, change),
-        b'l' => answer_lines(text, change),
-        b'g' => answer_group(text, change),
-        b'a' => answer_admission(text),
-        b'c' => answer_checks(text, change),
-        b'd' => answer_decodings(text, change),
-        b'e' => answer_corrections(text),
-        b'r' => answer_report(text),
-        _ => print(b"no kind of case\n"),
+        b'p' => answer_products(rt, text),
+        b's' => answer_sheet(rt, text, change),
+        b'l' => answer_lines(rt, text, change),
+        b'g' => answer_group(rt, text, change),
+        b'a' => answer_admission(rt, text),
+        b'c' => answer_checks(rt, text, change),
+        b'd' => answer_decodings(rt, text, change),
+        b'e' => answer_corrections(rt, text),
+        b'r' => answer_report(rt, text),
+        _ => print(rt, b"no kind of case\n"),
     }
 }

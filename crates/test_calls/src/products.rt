@@ -15,7 +15,7 @@ struct Line {
     rows: bool,
 }
 
-pub fn answer_products(text: &[u8]) {
+pub fn answer_products(rt: &HostRuntime, text: &[u8]) {
     let mut line = Line::without(true);
     let mut from = 0;
     while from < text.len() {
@@ -23,7 +23,7 @@ pub fn answer_products(text: &[u8]) {
         line = line.with(&text[from..end]);
         from = end + 1;
     }
-    line.print();
+    line.print(rt);
 }
 
 impl Line {
@@ -53,37 +53,37 @@ impl Line {
         }
     }
 
-    fn print(self) {
+    fn print(self, rt: &HostRuntime) {
         if !self.rows {
-            print(b"not rows\n");
+            print(rt, b"not rows\n");
             return;
         }
         let product = self.product;
-        print_phase(product);
-        print_letters(product, self.width);
+        print_phase(rt, product);
+        print_letters(rt, product, self.width);
         if self.commutes {
-            print(b" commutes");
+            print(rt, b" commutes");
         } else {
-            print(b" anticommutes");
+            print(rt, b" anticommutes");
         }
-        print_number(product.weight() as usize);
-        print(b"\n");
+        print_number(rt, product.weight() as usize);
+        print(rt, b"\n");
     }
 }
 
 // The sign of a signed row. Any other Pauli is i times one, and the i is written behind that one's sign.
-fn print_phase(p: Pauli) {
+fn print_phase(rt: &HostRuntime, p: Pauli) {
     if p.is_signed_row() {
-        print(&[p.sign().byte()]);
+        print(rt, &[p.sign().byte()]);
     } else {
         let minus_i = Pauli { p: 3, a: 0, b: 0 };
-        print(&[p.product(minus_i).sign().byte()]);
-        print(b"i");
+        print(rt, &[p.product(minus_i).sign().byte()]);
+        print(rt, b"i");
     }
 }
 
-fn print_letters(p: Pauli, width: u32) {
+fn print_letters(rt: &HostRuntime, p: Pauli, width: u32) {
     for place in 0..width {
-        print(&[p.letter_on(place as usize).byte()]);
+        print(rt, &[p.letter_on(place as usize).byte()]);
     }
 }

@@ -12,19 +12,19 @@ use test_cases::{one_less, print, print_buffer, print_written};
 const REPORT_ROOM: usize = 32768;
 
 // No report takes more bytes than that, so the test never holds; it says to the proof that there are as many dots.
-pub fn answer_report(text: &[u8]) {
+pub fn answer_report(rt: &HostRuntime, text: &[u8]) {
     let mut longer = many_dots();
-    print(b"longer");
-    let used = write_into(text, &mut longer).count();
+    print(rt, b"longer");
+    let used = write_into(rt, text, &mut longer).count();
     if REPORT_ROOM < used {
         return;
     }
     let mut short = many_dots();
-    print(b"short");
-    write_into(text, &mut short[0..one_less(used)]);
+    print(rt, b"short");
+    write_into(rt, text, &mut short[0..one_less(used)]);
     let mut exact = many_dots();
-    print(b"exact");
-    write_into(text, &mut exact[0..used]);
+    print(rt, b"exact");
+    write_into(rt, text, &mut exact[0..used]);
 }
 
 // Bytes for every report. They are dots, so that it can be seen what was written.
@@ -34,9 +34,9 @@ fn many_dots() -> [u8; REPORT_ROOM]
     [b'.'; REPORT_ROOM]
 }
 
-fn write_into(text: &[u8], out: &mut [u8]) -> Written {
+fn write_into(rt: &HostRuntime, text: &[u8], out: &mut [u8]) -> Written {
     let written = write_report(text, &mut *out);
-    print_written(written);
-    print_buffer(out);
+    print_written(rt, written);
+    print_buffer(rt, out);
     written
 }

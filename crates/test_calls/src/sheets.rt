@@ -8,28 +8,28 @@ use pauli::Pauli;
 use refusals::{Family, Lines};
 use test_cases::{changed, one_less, print, print_number, print_refusal};
 
-pub fn answer_sheet(text: &[u8], change: usize) {
+pub fn answer_sheet(rt: &HostRuntime, text: &[u8], change: usize) {
     let reading = reader::read_lines(text);
     let answer = reading.answer;
     let code = reading.code;
     let used = used_of(answer);
-    print(b"lines");
-    print_reading(reading);
+    print(rt, b"lines");
+    print_reading(rt, reading);
     if used == 0 && change == 0 {
         return;
     }
-    print_numbers(code);
-    print_rows(code);
-    print_behind(sheet_end::behind(text, answer));
-    answer_alone(text);
-    write_thrice(Writer::Sheet, changed(code, change), used);
+    print_numbers(rt, code);
+    print_rows(rt, code);
+    print_behind(rt, sheet_end::behind(text, answer));
+    answer_alone(rt, text);
+    write_thrice(rt, Writer::Sheet, changed(code, change), used);
 }
 
-fn answer_alone(text: &[u8]) {
+fn answer_alone(rt: &HostRuntime, text: &[u8]) {
     let alone = sheet_end::read_form(text);
-    print(b"alone");
-    print_reading(alone);
-    print_numbers(alone.code);
+    print(rt, b"alone");
+    print_reading(rt, alone);
+    print_numbers(rt, alone.code);
 }
 
 // How many bytes were read: none beside a refusal.
@@ -41,51 +41,51 @@ fn used_of(answer: Lines) -> usize {
 }
 
 // How many bytes were read, or a refusal; and the line of w, which is 0 beside a refusal.
-fn print_reading(reading: LinesReading) {
+fn print_reading(rt: &HostRuntime, reading: LinesReading) {
     let answer = reading.answer;
     match answer {
-        Lines::Read { used } => print_number(used),
-        Lines::Refused(refusal) => print_refusal(refusal),
+        Lines::Read { used } => print_number(rt, used),
+        Lines::Refused(refusal) => print_refusal(rt, refusal),
     }
     if reading.claim_at != 0 {
-        print_number(reading.claim_at);
+        print_number(rt, reading.claim_at);
     }
-    print(b"\n");
+    print(rt, b"\n");
 }
 
-pub fn print_numbers(code: Code) {
-    print(b"record");
-    print_number(code.n);
-    print_number(code.r);
-    print_number(code.d);
-    print(b"\n");
+pub fn print_numbers(rt: &HostRuntime, code: Code) {
+    print(rt, b"record");
+    print_number(rt, code.n);
+    print_number(rt, code.r);
+    print_number(rt, code.d);
+    print(rt, b"\n");
 }
 
 // The phases and masks of w, of the first row of each family, and of the last generator, or the first where there is
 // none.
-pub fn print_rows(code: Code) {
-    print(b"rows");
-    print_row(code.w);
-    print_row(code.row(Family::Generator, 0));
-    print_row(code.row(Family::LogicalX, 0));
-    print_row(code.row(Family::LogicalZ, 0));
-    print_row(code.row(Family::Generator, one_less(code.r)));
-    print(b"\n");
+pub fn print_rows(rt: &HostRuntime, code: Code) {
+    print(rt, b"rows");
+    print_row(rt, code.w);
+    print_row(rt, code.row(Family::Generator, 0));
+    print_row(rt, code.row(Family::LogicalX, 0));
+    print_row(rt, code.row(Family::LogicalZ, 0));
+    print_row(rt, code.row(Family::Generator, one_less(code.r)));
+    print(rt, b"\n");
 }
 
-pub fn print_row(row: Pauli) {
-    print_number(row.p as usize);
-    print_number(row.a as usize);
-    print_number(row.b as usize);
+pub fn print_row(rt: &HostRuntime, row: Pauli) {
+    print_number(rt, row.p as usize);
+    print_number(rt, row.a as usize);
+    print_number(rt, row.b as usize);
 }
 
 // How many bytes are behind the lines, and these bytes unless they are more than 40.
-fn print_behind(behind: &[u8]) {
-    print(b"behind");
-    print_number(behind.len());
-    print(b"\n");
+fn print_behind(rt: &HostRuntime, behind: &[u8]) {
+    print(rt, b"behind");
+    print_number(rt, behind.len());
+    print(rt, b"\n");
     if behind.len() <= 40 {
-        print(behind);
-        print(b"\n");
+        print(rt, behind);
+        print(rt, b"\n");
     }
 }

@@ -6,18 +6,18 @@ use code_record::pair_count;
 use refusals::Family;
 use test_cases::changed;
 
-pub fn answer_lines(text: &[u8], change: usize) {
+pub fn answer_lines(rt: &HostRuntime, text: &[u8], change: usize) {
     let reading = sheet_end::read_form(text);
     let code = reading.code;
     let changed = changed(code, change);
     let first = changed.row(Family::Generator, 0);
     let w = changed.w;
-    write_thrice(Writer::Row(first), changed, code.n % 32 + 4);
-    write_thrice(Writer::Letters(first), changed, code.n % 32 + 3);
-    write_thrice(Writer::Number(changed.n), changed, 23);
-    write_thrice(Writer::Number(w.a as usize), changed, 8);
-    write_thrice(Writer::Numbers, changed, 8);
-    write_thrice(Writer::Families, changed, rows_length(code.n, code.r));
+    write_thrice(rt, Writer::Row(first), changed, code.n % 32 + 4);
+    write_thrice(rt, Writer::Letters(first), changed, code.n % 32 + 3);
+    write_thrice(rt, Writer::Number(changed.n), changed, 23);
+    write_thrice(rt, Writer::Number(w.a as usize), changed, 8);
+    write_thrice(rt, Writer::Numbers, changed, 8);
+    write_thrice(rt, Writer::Families, changed, rows_length(code.n, code.r));
 }
 
 // How many bytes the lines of all rows have, of which there are n generators and X logicals. In a record that was read

@@ -19,24 +19,24 @@ pub enum Writer {
 
 // Writes with a byte less than the lines take, with as many, and with three more. No lines take more bytes than the
 // longest sheet, so the test never holds; it says to the proof that there are as many dots.
-pub fn write_thrice(writer: Writer, code: Code, used: usize) {
+pub fn write_thrice(rt: &HostRuntime, writer: Writer, code: Code, used: usize) {
     if LONGEST_SHEET < used {
         return;
     }
     let mut short = dots();
-    print(b"short");
-    write_into(writer, code, &mut short[0..one_less(used)]);
+    print(rt, b"short");
+    write_into(rt, writer, code, &mut short[0..one_less(used)]);
     let mut exact = dots();
-    print(b"exact");
-    write_into(writer, code, &mut exact[0..used]);
+    print(rt, b"exact");
+    write_into(rt, writer, code, &mut exact[0..used]);
     let mut longer = dots();
-    print(b"longer");
-    write_into(writer, code, &mut longer[0..used + 3]);
+    print(rt, b"longer");
+    write_into(rt, writer, code, &mut longer[0..used + 3]);
 }
 
-fn write_into(writer: Writer, code: Code, out: &mut [u8]) {
-    print_written(written(writer, code, &mut *out));
-    print_buffer(out);
+fn write_into(rt: &HostRuntime, writer: Writer, code: Code, out: &mut [u8]) {
+    print_written(rt, written(writer, code, &mut *out));
+    print_buffer(rt, out);
 }
 
 fn written(writer: Writer, code: Code, out: &mut [u8]) -> Written {

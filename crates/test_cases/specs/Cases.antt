@@ -1,13 +1,16 @@
 -- What the contracts of reading and printing cite.
-use Rattle.std.specs.Prelude.{cond, ℕ, zero, suc, ◌+◌, ◌*◌, ◌%◌, eqb}
+use Rattle.std.specs.Prelude.{cond, ◌≡◌, ℕ, zero, suc, ◌+◌, ◌*◌, ◌%◌, ◌≤◌, eqb, length, take}
 use mathlib.Core.List.{List, foldl, foldr}
 use Prim.Native.Char.{code}
-use Rattle.io.specs.Counts.{IsPrefixLen}
 use Rattle.test_cases.specs.declared.Case.{Case}
 
 -- The number that digits say, the highest first. The remainder of a digit's byte by 16 is the digit.
 unfoldable pub said : List ℕ → ℕ
 said = foldl (λ m c. m * 10 + c % 16) 0
+
+-- So many bytes are the start of the list.
+abbrev pub IsPrefixLen : ℕ → List ℕ → Type 0
+IsPrefixLen n xs = (n ≤ length xs) × (n ≡ length (take n xs))
 
 -- The text of a case lies at the start of the bytes.
 abbrev pub Within : Case → List ℕ → Type 0

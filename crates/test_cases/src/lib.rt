@@ -10,12 +10,12 @@ mod record;
 mod row;
 
 ghost use Rattle.std.specs.Prelude.{◌≡◌, ◌-◌, ◌%◌};
-ghost use Rattle.test_cases.specs.Cases.{said, Within};
+ghost use Rattle.test_cases.specs.Cases.{said, IsPrefixLen, Within};
 
-use libc::STDIN_FILENO;
 pub use output::{dots, print, print_buffer, print_number, print_refusal, print_written};
 pub use record::changed;
 pub use row::{above, turned, with_bits};
+use std::io::Read;
 
 // A case's kind and change, and how many bytes of its text were read; or that there is no case.
 #[derive(Clone, Copy)]
@@ -25,11 +25,11 @@ pub enum Case {
 }
 
 // Reads the next case, its text to the start of `text`. A text that is longer than that counts as no case.
-pub fn read_case(text: &mut [u8]) -> Case
+pub fn read_case<R: Read>(input: &mut R, text: &mut [u8]) -> Case
     ensures { Within result text.new }
 {
     let mut header = [0u8; 10];
-    if io::read_full(STDIN_FILENO, &mut header) < 10 {
+    if read_full(&mut *input, &mut header) < 10 {
         return Case::End;
     }
     let kind = header[0];
@@ -38,8 +38,23 @@ pub fn read_case(text: &mut [u8]) -> Case
     if text.len() < announced {
         return Case::End;
     }
-    let len = io::read_full(STDIN_FILENO, &mut text[0..announced]);
+    let len = read_full(input, &mut text[0..announced]);
     Case::Got { kind, change, len }
+}
+
+// Reads until the buffer is full, the input ends or a read fails. How many bytes were put at the buffer's start.
+fn read_full<R: Read>(input: &mut R, buffer: &mut [u8]) -> usize
+    ensures { IsPrefixLen result buffer.new }
+{
+    let mut end: usize = 0;
+    while end < buffer.len() {
+        let count = input.read(&mut buffer[end..]).unwrap_or(0);
+        if count == 0 {
+            return end;
+        }
+        end += count;
+    }
+    end
 }
 
 // The number that digits say. The remainder takes nothing away from five digits, the most that a header has.

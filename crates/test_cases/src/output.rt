@@ -1,43 +1,50 @@
-// Answers on standard output.
+// Answers on standard output. A write that fails is passed over, and the output is then shorter than it should be.
 ghost use Rattle.std.specs.Prelude.{◌≡◌, ◌≤◌, length, replicate};
 ghost use Rattle.test_cases.specs.Cases.{buffer_room, dot, shown};
 
-use libc::STDOUT_FILENO;
 use refusals::{Refusal, RowFamily, Written};
 
-pub fn print(text: &[u8]) {
-    io::write_all(STDOUT_FILENO, text);
+pub fn print(rt: &HostRuntime, text: &[u8]) {
+    match rt.write_all(text) {
+        Ok(()) | Err(_) => {}
+    }
+}
+
+fn print_decimal(rt: &HostRuntime, number: u64) {
+    match rt.print(number) {
+        Ok(()) | Err(_) => {}
+    }
 }
 
 // Behind a space.
-pub fn print_number(number: usize) {
-    print(b" ");
-    io::print_decimal(STDOUT_FILENO, number as u64);
+pub fn print_number(rt: &HostRuntime, number: usize) {
+    print(rt, b" ");
+    print_decimal(rt, number as u64);
 }
 
 // The number, the line, and the family where there is one.
-pub fn print_refusal(refusal: Refusal) {
+pub fn print_refusal(rt: &HostRuntime, refusal: Refusal) {
     let values = refusal.values();
     let family = values.family;
-    print(b" r=");
-    io::print_decimal(STDOUT_FILENO, values.number as u64);
-    print(b" at=");
-    io::print_decimal(STDOUT_FILENO, values.line as u64);
+    print(rt, b" r=");
+    print_decimal(rt, values.number as u64);
+    print(rt, b" at=");
+    print_decimal(rt, values.line as u64);
     match family {
         RowFamily::Row(family) => {
-            print(b" of=");
-            print(&[family.key()]);
+            print(rt, b" of=");
+            print(rt, &[family.key()]);
         }
         RowFamily::NoRow => {}
     }
 }
 
-pub fn print_written(written: Written) {
+pub fn print_written(rt: &HostRuntime, written: Written) {
     match written {
-        Written::Count(count) => print_number(count),
-        Written::Refused(refusal) => print_refusal(refusal),
+        Written::Count(count) => print_number(rt, count),
+        Written::Refused(refusal) => print_refusal(rt, refusal),
     }
-    print(b"\n");
+    print(rt, b"\n");
 }
 
 // How many bytes a writer is lent at most: some more than the longest sheet has.
@@ -51,11 +58,11 @@ pub fn dots() -> [u8; BUFFER_ROOM]
 }
 
 // The bytes up to the last that is no dot, and how many dots follow.
-pub fn print_buffer(buffer: &[u8]) {
+pub fn print_buffer(rt: &HostRuntime, buffer: &[u8]) {
     let end = shown_len(buffer);
-    print(&buffer[0..end]);
-    print_number(buffer.len() - end);
-    print(b"\n");
+    print(rt, &buffer[0..end]);
+    print_number(rt, buffer.len() - end);
+    print(rt, b"\n");
 }
 
 // How many bytes there are up to the last that is no dot.

@@ -1,4 +1,4 @@
-//! What is made through the library. Build it first, with `rt staticlib rack`.
+//! What is made through the library. Build it first, with `tools/build`.
 //!
 //! `library_tests compare` makes many calls and compares what each of them answers and writes with the independent
 //! implementation. Most inputs are made from a seed, which is printed first: a number behind `compare` takes the place

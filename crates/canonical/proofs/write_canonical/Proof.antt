@@ -50,7 +50,7 @@ returns c =
     let limits = c.before in
     let a = limits.args in
     let outside = failed limits.within_limits.ensures c.if-not-within_limits.true-raw in
-    answers-fault (canonical_text a.code) a.out-1.now
+    answers-fault (canonical_text a.code) a.out.now
     (sym (fault-told a.code (record-outside a.code outside) refl))
 
 returns-2 : tie.Need-returns-in-Refused
@@ -58,7 +58,7 @@ unfolding write_canonical
 returns-2 c =
     let checks = c.before in
     let a = checks.args in
-    answers-fault (canonical_text a.code) a.out-1.now
+    answers-fault (canonical_text a.code) a.out.now
     (sym (fault-told a.code (checked checks) c.in-Refused.is))
 
 returns-3 : tie.Need-returns
@@ -66,7 +66,7 @@ unfolding rows_in
 returns-3 c =
     let call = c.write_rows in
     let e = rows-answer c.before.before.before.before.before.before in
-    (call.ensures.0 ∙ ap (λ after. after.answer-1) e, call.ensures.1 ∙ ap (λ after. after.buffer) e)
+    (call.ensures.0 ∙ ap (λ after. after.answer) e, call.ensures.1 ∙ ap (λ after. after.buffer) e)
 
 pub write_canonical_spec : {M : Type 1} → statement M
 write_canonical_spec =

@@ -15,7 +15,7 @@ use Rattle.claim_checks.proofs.check_claim.Statement.{statement}
 use Rattle.claim_checks.proofs.check_claim.Tie as tie
 
 abbrev start : tie.After-weight → tie.Start
-start c = c.before
+start c = c.before.before
 
 -- ---- what each test tells
 by-weight : (c : tie.After-weight) → let code = (start c).args.code in
@@ -28,23 +28,23 @@ right-weight c =
     let w = c.before.before in
     by-weight w ∙ ap not (eq-eqb w.weight.result (start w).args.code.d c.if-weight-code.false)
 
-by_mask : (c : tie.After-syndrome_mask) → let code = (start c.before.before.before.before).args.code in
+by_mask : (c : tie.After-syndrome_mask) → let code = (start c.before.before.before.before.before).args.code in
     not (eqb (syndrome_mask (generators code) code.w) 0) ≡ not (eqb c.syndrome_mask.result 0)
 unfolding generators
 by_mask c = ap (λ m. not (eqb m 0)) (sym c.syndrome_mask.ensures)
 
-undetected : (c : tie.Else-syndrome_mask-ne0) → let code = (start c.before.before.before.before.before).args.code in
+undetected : (c : tie.Else-syndrome_mask-ne0) → let code = (start c.before.before.before.before.before.before).args.code in
     not (eqb (syndrome_mask (generators code) code.w) 0) ≡ false
 undetected c = by_mask c.before ∙ ap not (eq-eqb c.syndrome_mask.result 0 c.if-syndrome_mask-ne0.false)
 
 -- The third test alone is left, whichever way it goes.
 by_rows : (c : tie.After-contains) (contained : Bool) → c.contains.result ≡ contained
-    → let a = (start c.before.before.before.before.before.before).args in
+    → let a = (start c.before.before.before.before.before.before.before.before).args in
     refuse_if contained (Refusal.ClaimedInGroup a.at) ≡ claim_fault a.at a.code a.reduced
 unfolding refuse_if ◌then◌
 by_rows c contained told =
-    let clean = c.before in
-    let weighed = clean.before.before.before in
+    let clean = c.before.before in
+    let weighed = clean.before.before.before.before in
     let a = (start weighed.before.before).args in
     claim-found a.at a.code a.reduced (right-weight weighed) (undetected clean)
     (sym c.contains.ensures ∙ told)
@@ -62,7 +62,7 @@ returns-2 : tie.Need-returns-then-syndrome_mask-ne0
 unfolding refuse_if ◌then◌
 returns-2 c =
     let told = c.before in
-    let weighed = told.before.before in
+    let weighed = told.before.before.before in
     let a = (start weighed.before.before).args in
     claim-found a.at a.code a.reduced (right-weight weighed)
     (by_mask told ∙ ap not (ne_eqb told.syndrome_mask.result 0 c.if-syndrome_mask-ne0.true)) refl

@@ -42,10 +42,10 @@ returns-2 c =
     c.in_default.is)
 
 -- ---- where w is read
-abbrev line : tie.In-Got-2 → tie.After-claim_line
+abbrev line : tie.In-Got → tie.After-claim_line
 line c = c.before
 
-within : (c : tie.In-Got-2)
+within : (c : tie.In-Got)
     → (start (line c)).args.from + c.in-Got.used ≤ length (start (line c)).args.s.now
 within c =
     let a = (start (line c)).args in
@@ -54,12 +54,12 @@ within c =
 
 add-t13 : tie.Need-overflow_add-result
 add-t13 c =
-    let read = c.before.before.before.before in
+    let read = c.before.before.before in
     record { fits = lt_of_le_of_lt (within read) (start (line read)).well_formed.0.0 }
 
 returns-3 : tie.Need-returns
 returns-3 c =
-    let read = c.before.before.before.before in
+    let read = c.before.before.before in
     let a = (start (line read)).args in
     sheet-read _ (within read)
     (claim-read a.from a.n a.d a.at a.generators a.logicals a.s.now (here (line read))

@@ -104,13 +104,13 @@ returns c =
     let t = turn c.before in
     let loop = t.before in
     here loop
-    (tried-passes loop.loop-earlier.invariant (room (s loop)) t.loop-earlier-test.taken (tested c.before ∙ c.if-not-commutes.true-raw))
+    (tried-passes loop.loop-earlier.invariant (room (s loop)) t.loop-earlier-test.true (tested c.before ∙ c.if-not-commutes.true-raw))
 
 loop2-again : tie.Need-loop-earlier-preserved invariant-loop2 decreases-loop2 invariant-loop decreases-loop
 loop2-again c =
     let t = turn c.before in
     let loop = t.before in
-    tried-more loop.loop-earlier.invariant (room (s loop)) t.loop-earlier-test.taken (tested c.before ∙ c.if-not-commutes.false-raw)
+    tried-more loop.loop-earlier.invariant (room (s loop)) t.loop-earlier-test.true (tested c.before ∙ c.if-not-commutes.false-raw)
 
 loop-again : tie.Need-loop-place-preserved invariant-loop2 decreases-loop2 invariant-loop decreases-loop
 unfolding refuse_if ◌then◌

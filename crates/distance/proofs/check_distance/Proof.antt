@@ -9,7 +9,7 @@ use Rattle.distance.proofs.check_distance.Statement.{statement}
 use Rattle.distance.proofs.check_distance.Tie as tie
 
 abbrev made : tie.After-earliest → tie.After-logical_words-words
-made c = c.before.before.before.before.before
+made c = c.before.before.before.before
 
 -- What was found decides.
 decided : (c : tie.After-earliest)

@@ -56,10 +56,10 @@ answers c =
     c.row_line.ensures
 
 -- where it is a row's
-abbrev found : tie.In-Got-2 invariant-loop decreases-loop → Line
+abbrev found : tie.In-Got invariant-loop decreases-loop → Line
 found c = c.before
 
-within : (c : tie.In-Got-2 invariant-loop decreases-loop)
+within : (c : tie.In-Got invariant-loop decreases-loop)
     → (at (found c)).loop-count.end + c.in-Got.used ≤ length (s (at (found c)))
 within c =
     let here = at (found c) in
@@ -94,12 +94,12 @@ returns c =
 
 add-end : tie.Need-overflow_add-end invariant-loop decreases-loop
 add-end c =
-    let read = c.before in
-    record { fits = lt_of_le_of_lt (within read) (start (at (found read))).good.0.0 }
+    let read = c in
+    record { fits = lt_of_le_of_lt (within read) (start (at (found read))).well_formed.0.0 }
 
 loop-again : tie.Need-loop-count-preserved invariant-loop decreases-loop
 loop-again c =
-    let read = c.before in
+    let read = c in
     let line = found read in
     let here = at line in
     turned_more _ _ _ (s here) here.loop-count.invariant _ _ (omega (arith, ltb-true)) (omega arith) (within read)

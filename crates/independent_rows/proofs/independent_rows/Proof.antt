@@ -1,5 +1,5 @@
 -- Each turn adds a row: the rows so far reduce it, what is left clears them, and those behind its place move up.
-use mathlib.Core.Logic.{inl, inr, ⊎_elim}
+use mathlib.Core.Logic.{inl, inr}
 use mathlib.Core.Path.{◌≡◌, refl, ap, sym, ◌∙◌}
 use Prim.Native.Nat.{◌-◌, ◌<◌}
 use native.Mathlib.Omega.{arith}
@@ -17,6 +17,7 @@ use Rattle.independent_rows.proofs.Added.{added-end, added-dependent, added-apar
 use borrow.Author.Rules.{rules}
 use borrow.Author.Tests.{ltb-true, ltb-false}
 use Rattle.independent_rows.proofs.independent_rows.Statement.{statement}
+use Rattle.independent_rows.proofs.independent_rows.Lts.{else-loop-at-3-test, then-loop-at-3-test+then-pivot-first}
 use Rattle.independent_rows.proofs.independent_rows.Tie as tie
 
 abbrev invariant-loop2 : tie.invariant-loop-at
@@ -131,8 +132,10 @@ loop-again c =
     added_more a.n a.rows a.count inv (room (start loop)) (few loop) loop.loop-at.invariant.few
     (left_is tested) (sym tested.is_phase.ensures ∙ q.if-is_phase.false) q.modulo4-left.ensures refl
     (placed loop3.loop-at-2.invariant loop3.loop-at-2-test.false loop4.loop-at-3.invariant apart
-    (λ some. ⊎_elim (λ none. absurd (omega (arith, none.left-1)))
-    (λ t. omega (arith, t.3.taken, t.2.ensures, loop4.pivot-first.ensures)) c.loop-at-3-test.branch))
+    (λ some. elim c.loop-at-3-test.branch [
+      else-loop-at-3-test w ↦ absurd (omega (arith, w.loop-at-3-test.false))
+    | then-loop-at-3-test+then-pivot-first w ↦ omega (arith, w.if-pivot-first.true, w.pivot.ensures, loop4.pivot-first.ensures)
+    ]))
 
 returns-2 : tie.Need-returns-else-place-count invariant-loop2 decreases-loop2 invariant-loop3 decreases-loop3 invariant-loop4 decreases-loop4 invariant-loop decreases-loop
 returns-2 c = added-end _ _ _ c.loop-place.invariant (inl (omega (arith, ltb-false)))

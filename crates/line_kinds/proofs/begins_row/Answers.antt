@@ -7,12 +7,12 @@ use Rattle.line_kinds.proofs.begins_row.Goals as goal
 pub returns-in_default : goal.returns-in_default
 returns-in_default c =
     no-row-begins _ c.line_kind-kind.ensures Family.Generator c.in-Generator.is
-    (other-kind LineKind.Generator c.in_default.in_default-own.keys2)
+    c.in_default.not-Generator
 
 pub returns-in_default-kind : goal.returns-in_default-kind
 returns-in_default-kind c =
     no-row-begins _ c.line_kind-kind.ensures Family.LogicalX c.in-LogicalX.is
-    (other-kind LineKind.LogicalX c.in_default-kind.in_default-kind-own.keys2)
+    c.in_default-kind.not-LogicalX
 
 pub returns-in_default-kind-2 : goal.returns-in_default-kind-2
 returns-in_default-kind-2 c =

@@ -16,19 +16,19 @@ use Rattle.line_parts.proofs.read_number.Tie as tie
 abbrev word : tie.After-read_digit → List ℕ
 word c = c.args.word.now
 
-abbrev first : tie.In-Got-2 → ℕ
+abbrev first : tie.In-Got → ℕ
 first c = c.in-Got.first
 
-first-is : (c : tie.In-Got-2) → read_digit (get_or (word c.before) 0 0) ≡ some (first c)
+first-is : (c : tie.In-Got) → read_digit (get_or (word c.before) 0 0) ≡ some (first c)
 first-is c = sym c.read_digit.ensures ∙ ap number_in c.in-Got.is
 
-abbrev first-at : tie.After-read_digit-2 → tie.In-Got-2
-first-at c = c.before.before.before.before.before
+abbrev first-at : tie.After-read_digit-2 → tie.In-Got
+first-at c = c.before.before.before.before
 
 abbrev word_at : tie.After-read_digit-2 → List ℕ
 word_at c = word (first-at c).before
 
-second_is : (c : tie.In-Got-read_digit-2) → read_digit (get_or (word_at c.before) 1 0) ≡ some c.in-Got-read_digit.second
+second_is : (c : tie.In-Got-read_digit) → read_digit (get_or (word_at c.before) 1 0) ≡ some c.in-Got-read_digit.second
 second_is c = sym c.read_digit-2.ensures ∙ ap number_in c.in-Got-read_digit.is
 
 -- what the definition gives, at a word that is not too long
@@ -52,13 +52,13 @@ returns-3 c =
 
 returns-4 : tie.Need-returns-then-first-eq0
 returns-4 c =
-    let found = c.before.before in
+    let found = c.before in
     gives found.before
     (zero-first (word found.before) (search rules) (first-is found ∙ ap some c.if-first-eq0.true))
 
 returns-5 : tie.Need-returns-then-word-eq1
 returns-5 c =
-    let found = c.before.before.before in
+    let found = c.before.before in
     gives found.before
     (one-digit (first found) c.if-first-eq0.false (word found.before) c.if-word-eq1.true (first-is found))
 
@@ -79,7 +79,7 @@ add-t11 c =
       arith,
       digit-small _ _ (first-is (first-at c.before)),
       digit-small _ _
-          (second_is c.before),
+          (second_is c),
     )
 
 returns-7 : tie.Need-returns
@@ -88,7 +88,7 @@ returns-7 c =
     gives (first-at found).before
     (two_digits (first (first-at found)) found.if-first-eq0.false (word_at found)
     c.in-Got-read_digit.second (search rules)
-    (first-is (first-at found)) (second_is c.before))
+    (first-is (first-at found)) (second_is c))
 
 pub read_number_spec : {M : Type 1} → statement M
 read_number_spec =

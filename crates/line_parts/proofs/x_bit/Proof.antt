@@ -8,9 +8,8 @@ use Rattle.line_parts.proofs.x_bit.Tie as tie
 
 returns : tie.Need-returns-in-Got
 returns c =
-    let found = c.before.before in
     c.x_bit.ensures
-    ∙ ap (bit_of x_bit) (sym (ap letter_in found.in-Got.is) ∙ found.read.ensures)
+    ∙ ap (bit_of x_bit) (sym (ap letter_in c.in-Got.is) ∙ c.read.ensures)
 
 returns-2 : tie.Need-returns-in-NotALetter
 returns-2 c = ap (bit_of x_bit) (sym (ap letter_in c.in-NotALetter.is) ∙ c.read.ensures)

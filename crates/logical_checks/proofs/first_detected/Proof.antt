@@ -1,7 +1,6 @@
 -- 9 is found at the first logical that anticommutes with a generator: the logicals are tried in turn, each with the
 -- generators in turn.
 use mathlib.Core.Bool.{not}
-use mathlib.Core.Logic.{⊎_elim}
 use mathlib.Core.Path.{◌≡◌, ap, sym, ◌∙◌}
 use Prim.Native.Nat.{◌-◌, ◌*◌, ◌<◌}
 use native.Mathlib.Omega.{arith}
@@ -15,6 +14,7 @@ use Rattle.logical_pairs.proofs.LogicalPlaces.{Logical, x-at, z-at}
 use Rattle.logical_checks.proofs.Detected.{Within, within, Nine, nine-first, nine-found, nine-passed, nine-end}
 use borrow.Author.Rules.{rules}
 use Rattle.logical_checks.proofs.first_detected.Statement.{statement}
+use Rattle.logical_checks.proofs.first_detected.Lts.{then-place-pairs, else-place-pairs}
 use Rattle.logical_checks.proofs.first_detected.Tie as tie
 
 abbrev invariant-loop2 : tie.invariant-loop-row
@@ -68,8 +68,7 @@ loop2-holds c =
       record {
         known = k;
         within = inside;
-        row = ⊎_elim (λ w. w.2 ∙ x-at k loop.place w.0.taken)
-            (λ w. w.2 ∙ z-at k loop.place w.0.left inside) c.if-place-pairs.branch;
+        row = elim c.if-place-pairs.branch [ then-place-pairs w ↦ w.p-is ∙ x-at k loop.place w.if-place-pairs.true | else-place-pairs w ↦ w.p-is ∙ z-at k loop.place w.if-place-pairs.false inside ];
       },
       tried-none _ c.args.code.g _ (omega (arith, few)),
     )
@@ -81,7 +80,7 @@ returns c =
     let t = turn told in
     let inv = t.loop-row.invariant in
     nine-found inv.2
-    (sym (tried-passes inv.3 inv.0.known.sized.room_g t.loop-row-test.taken (tested told ∙ c.if-not-commutes.true-raw)))
+    (sym (tried-passes inv.3 inv.0.known.sized.room_g t.loop-row-test.true (tested told ∙ c.if-not-commutes.true-raw)))
     (at t.before).loop-place.invariant.1
 
 loop2-again : tie.Need-loop-row-preserved invariant-loop2 decreases-loop2 invariant-loop decreases-loop
@@ -92,7 +91,7 @@ loop2-again c =
       inv.0,
       inv.1,
       inv.2,
-      tried-more inv.3 inv.0.known.sized.room_g t.loop-row-test.taken (tested told ∙ c.if-not-commutes.false-raw),
+      tried-more inv.3 inv.0.known.sized.room_g t.loop-row-test.true (tested told ∙ c.if-not-commutes.false-raw),
     )
 
 loop-again : tie.Need-loop-place-preserved invariant-loop2 decreases-loop2 invariant-loop decreases-loop

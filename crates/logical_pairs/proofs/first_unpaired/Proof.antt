@@ -1,7 +1,6 @@
 -- 10 is found at the first logical that pairs wrongly with an earlier one: the logicals are tried in turn, each with
 -- those before it in turn.
 use mathlib.Core.Bool.{Bool, ◌||◌, beq}
-use mathlib.Core.Logic.{⊎_elim}
 use mathlib.Core.Path.{◌≡◌, refl, ap, sym, ◌∙◌}
 use Prim.Native.Nat.{◌+◌, ◌-◌, ◌*◌, ◌<◌}
 use native.Mathlib.Omega.{arith}
@@ -19,6 +18,7 @@ use Rattle.logical_pairs.proofs.Places.{PlaceFrom, place_here, place-later, plac
 use Rattle.logical_pairs.proofs.Pairs.{WrongFrom, wrong-at, wrong-end}
 use borrow.Author.Rules.{rules}
 use Rattle.logical_pairs.proofs.first_unpaired.Statement.{statement}
+use Rattle.logical_pairs.proofs.first_unpaired.Lts.{then-place-xs, else-place-xs, then-earlier-xs, else-earlier-xs}
 use Rattle.logical_pairs.proofs.first_unpaired.Tie as tie
 
 abbrev invariant-loop2 : tie.invariant-loop-earlier
@@ -52,13 +52,12 @@ module _ (c : tie.After-commutes invariant-loop2 decreases-loop2 invariant-loop 
 
   -- It stands before the place, and is one of the logicals.
   inside : tried.loop-earlier.earlier < 2 * (at tried).x_count-xs.result
-  inside = omega (arith, turn.loop-earlier-test.taken, tried.loop-earlier.invariant.0.within)
+  inside = omega (arith, turn.loop-earlier-test.true, tried.loop-earlier.invariant.0.within)
 
   row : c.if-earlier-xs.q ≡ get_or (logicals code) tried.loop-earlier.earlier identity
   row =
       let k = tried.loop-earlier.invariant.0.known in
-      ⊎_elim (λ w. w.2 ∙ x-at k tried.loop-earlier.earlier w.0.taken)
-      (λ w. w.2 ∙ z-at k tried.loop-earlier.earlier w.0.left inside) c.if-earlier-xs.branch
+      elim c.if-earlier-xs.branch [ then-earlier-xs w ↦ w.q-is ∙ x-at k tried.loop-earlier.earlier w.if-earlier-xs.true | else-earlier-xs w ↦ w.q-is ∙ z-at k tried.loop-earlier.earlier w.if-earlier-xs.false inside ]
 
   here : {t : Bool} → let pairs = (at tried).pair_count-pairs.result in
       let place = (at tried).loop-place.place in
@@ -71,7 +70,7 @@ module _ (c : tie.After-commutes invariant-loop2 decreases-loop2 invariant-loop 
       let place = (at tried).loop-place.place in
       let earlier = tried.loop-earlier.earlier in
       let told = c.commutes.ensures ∙ ap (commutes tried.if-place-xs.p) row in
-      wrong-at _ place earlier (logicals code) tried.if-place-xs.p turn.loop-earlier-test.taken
+      wrong-at _ place earlier (logicals code) tried.if-place-xs.p turn.loop-earlier-test.true
       (omega (arith, inside, logicals-length inv.0.known))
       (ap (λ t. beq t (eqb (place - earlier) (at tried).pair_count-pairs.result)) (sym told) ∙ test)
       ∙ inv.1
@@ -94,8 +93,7 @@ loop2-holds c =
       record {
         known = k;
         within = within;
-        row = ⊎_elim (λ w. w.2 ∙ x-at k loop.place w.0.taken)
-            (λ w. w.2 ∙ z-at k loop.place w.0.left within) c.if-place-xs.branch;
+        row = elim c.if-place-xs.branch [ then-place-xs w ↦ w.p-is ∙ x-at k loop.place w.if-place-xs.true | else-place-xs w ↦ w.p-is ∙ z-at k loop.place w.if-place-xs.false within ];
       },
       refl,
     )

@@ -48,14 +48,14 @@ returns-3 : tie.Need-returns-in-Found
 returns-3 c =
     let call = c.before in
     let s = start (limited call) in
-    one_found s.args.code s.args.syndrome (within (limited call)) (below call) (sized_of _ s.good.0) _
+    one_found s.args.code s.args.syndrome (within (limited call)) (below call) (sized_of _ s.well_formed.0) _
     (sym c.in-Found.is ∙ call.correct.ensures)
 
 returns-4 : tie.Need-returns-in-None
 returns-4 c =
     let call = c.before in
     let s = start (limited call) in
-    none_found s.args.code s.args.syndrome (within (limited call)) (below call) (sized_of _ s.good.0)
+    none_found s.args.code s.args.syndrome (within (limited call)) (below call) (sized_of _ s.well_formed.0)
     (sym c.in-None.is ∙ call.correct.ensures)
 
 pub decode_mask_spec : {M : Type 1} → statement M

@@ -13,7 +13,7 @@ returns-in_default c =
     number-of-other LineKind.Distance 1 2 1 most_distance (Refusal.DistanceRange 2) _ (distance-line-form _)
     c.line_kind.ensures
     (c.refused.ensures _)
-    (other-kind LineKind.Distance c.in_default.in_default-own.keys2)
+    c.in_default.not-Distance
 
 pub returns : goal.returns
 returns c =

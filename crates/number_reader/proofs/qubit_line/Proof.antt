@@ -18,7 +18,7 @@ returns c =
     number-of-other LineKind.Qubits (qubit_digits s) 1 2 most_qubits (Refusal.QubitCount 1) s (qubit-line-form s)
     c.line_kind.ensures
     (c.refused.ensures s)
-    (other-kind LineKind.Qubits c.in_default.in_default-own.keys2)
+    c.in_default.not-Qubits
 
 abbrev s : tie.After-qubit_digits-digits → List ℕ
 s c = c.args.s.now

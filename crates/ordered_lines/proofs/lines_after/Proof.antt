@@ -63,10 +63,10 @@ ls-answer c =
     (sym c.lines_at-answer.ensures)
     (logicals-read (k line) (n line) (at line) (left line) (logicals line) (start line).requires.1.0 (answers line))
 
-abbrev found : tie.In-Read-2 → tie.After-logical_lines-logicals
+abbrev found : tie.In-Read → tie.After-logical_lines-logicals
 found c = c.before.before
 
-ls-read : (c : tie.In-Read-2)
+ls-read : (c : tie.In-Read)
     → Reached (s (found c)) ((start (found c)).args.from + c.in-Read.used) (ls (found c))
     (pair_lines (k (found c)) (n (found c)) (at (found c)) (left (found c)))
 ls-read c = reached-more (start (found c)).requires.0 (ls-answer c.before) c.in-Read.is
@@ -77,7 +77,7 @@ next c m gs ls = with_claim (n c) (start c).args.d (at c + 2 * m) gs ls.0 ls.1
 
 few : (c : tie.After-pair_count) → c.pair_count.result ≤ most_qubits
 unfolding pair_count
-few c = omega (arith, c.pair_count.ensures, (start (found c.before.before)).requires.1.0)
+few c = omega (arith, c.pair_count.ensures, (start (found c.before)).requires.1.0)
 
 returns : tie.Need-returns-in_default
 returns c =
@@ -92,25 +92,25 @@ mul-claim-at : tie.Need-overflow_mul-claim_at
 mul-claim-at c = omega (arith, few c)
 
 add-claim-at : tie.Need-overflow_add-claim_at
-add-claim-at c = omega (arith, few c, (start (found c.before.before)).requires.1.1)
+add-claim-at c = omega (arith, few c, (start (found c.before)).requires.1.1)
 
 add-claim-after : tie.Need-overflow_add-from
 add-claim-after c =
-    let read = c.before.before in
+    let read = c.before in
     record { fits = lt_of_le_of_lt (ls-read read).within (start (found read)).well_formed.0.0 }
 
 returns-2 : tie.Need-returns
 returns-2 c =
-    let read = c.before.before.before in
+    let read = c.before.before in
     let begin = found read in
     let end = (start begin).args.from + read.in-Read.used in
-    let held = logicals-held (k begin) (n begin) (at begin) (left begin) (logicals begin) (start begin).pre.1.0
+    let held = logicals-held (k begin) (n begin) (at begin) (left begin) (logicals begin) (start begin).requires.1.0
     (answers begin) in
     λ gs e. c.claim_after.ensures
     ∙ ap (answered (s begin))
     (claim-of-held end (n begin) (start begin).args.d (at begin + 2 * c.pair_count.result) gs
     (ls begin).0 (ls begin).1 (start begin).args.generators (logicals begin) (s begin) e held
-    (start begin).pre.1.0 (ls-read read).within
+    (start begin).requires.1.0 (ls-read read).within
     ∙ ap (λ m. next begin m gs (ls begin) (drop end (s begin))) c.pair_count.ensures
     ∙ sym
     (pairs_first (n begin) (start begin).args.d (at begin) gs (k begin) (ap (λ p. pair_count (n begin) p.0) e)

@@ -68,15 +68,15 @@ g-answer c =
     (sym c.lines_at-answer.ensures)
     (generators-read (n line) first_generator_at (left line) (rows line) (few-qubits line) (answers line))
 
-abbrev found : tie.In-Read-2 → tie.After-generator_lines-generators
+abbrev found : tie.In-Read → tie.After-generator_lines-generators
 found c = c.before.before
 
-g-read : (c : tie.In-Read-2)
+g-read : (c : tie.In-Read)
     → Reached (s (found c)) ((start (found c)).args.from + c.in-Read.used) (gs (found c))
     (generator_lines (n (found c)) first_generator_at (left (found c)))
 g-read c = reached-more (here (found c)) (g-answer c.before) c.in-Read.is
 
-few : (c : tie.In-Read-2) → (rows (found c)).count ≤ row_room
+few : (c : tie.In-Read) → (rows (found c)).count ≤ row_room
 unfolding most_generators
 few c =
     let line = found c in
@@ -117,21 +117,21 @@ returns-3 c =
     (then-stop (next line.before) (was-refused (g-answer line) c.in_default.is)))
 
 add_at : tie.Need-overflow_add-at
-add_at c = omega (arith, few c.before.before)
+add_at c = omega (arith, few c.before)
 
 add-lines-after : tie.Need-overflow_add-from
 add-lines-after c =
-    let read = c.before.before in
+    let read = c.before in
     record { fits = lt_of_le_of_lt (g-read read).within (start (found read)).well_formed.0.0 }
 
 lines-after-requires : tie.Need-lines_after-requires
 lines-after-requires c κs =
-    let read = c.before.before in
+    let read = c.before in
     ((g-read read).within, (few-qubits (found read), omega (arith, few read)))
 
 returns-4 : tie.Need-returns
 returns-4 c =
-    let read = c.before.before.before in
+    let read = c.before.before in
     let line = found read in
     let rest = drop ((start line).args.from + read.in-Read.used) (s line) in
     c.lines_after.ensures (gs line) (held line)

@@ -33,10 +33,10 @@ d-answer c =
     number-reads (left c) (distance-line-outcome (left c))
     (c.distance_line-distance.ensures ∙ ap (λ t. number_answer t (distance_line t)) (tail_of (start c).args.from (s c)))
 
-abbrev found : tie.In-Read-2 → tie.After-distance_line-distance
+abbrev found : tie.In-Read → tie.After-distance_line-distance
 found c = c.before
 
-d-read : (c : tie.In-Read-2)
+d-read : (c : tie.In-Read)
     → Reached (s (found c)) ((start (found c)).args.from + c.in-Read.used)
     (found c).distance_line-distance.result.number (distance_line (left (found c)))
 d-read c = reached-more (start (found c)).requires.0 (d-answer (found c)) c.in-Read.is
@@ -49,11 +49,11 @@ returns c =
 
 add-lines-from-g : tie.Need-overflow_add-from
 add-lines-from-g c =
-    let read = c.before in record { fits = lt_of_le_of_lt (d-read read).within (start (found read)).well_formed.0.0 }
+    let read = c in record { fits = lt_of_le_of_lt (d-read read).within (start (found read)).well_formed.0.0 }
 
 returns-2 : tie.Need-returns
 returns-2 c =
-    let read = c.before.before in
+    let read = c.before in
     c.lines_from_g.ensures
     ∙ ap (answered (s (found read)))
     (rows_inside _ _ _ _ (start (found read)).requires.1 (d-read read).within

@@ -23,14 +23,14 @@ n-answer : (c : tie.After-qubit_line-qubits)
     → Reads (s c) c.qubit_line-qubits.result.answer c.qubit_line-qubits.result.number (qubit_line (s c))
 n-answer c = number-reads (s c) (qubit-line-outcome (s c)) c.qubit_line-qubits.ensures
 
-abbrev found : tie.In-Read-2 → tie.After-qubit_line-qubits
+abbrev found : tie.In-Read → tie.After-qubit_line-qubits
 found c = c.before
 
-n-read : (c : tie.In-Read-2)
+n-read : (c : tie.In-Read)
     → Reached (s (found c)) c.in-Read.used (found c).qubit_line-qubits.result.number (qubit_line (s (found c)))
 n-read c = was_read (n-answer (found c)) c.in-Read.is
 
-few : (c : tie.In-Read-2) → (found c).qubit_line-qubits.result.number ≤ most_qubits
+few : (c : tie.In-Read) → (found c).qubit_line-qubits.result.number ≤ most_qubits
 few c = (what_was-got (qubit-line-outcome (s (found c))) (n-read c).gives).lawful.1
 
 returns : tie.Need-returns-in_default
@@ -41,12 +41,12 @@ returns c =
     (then-stop lines_from_d (was-refused (n-answer line) c.in_default.is))
 
 lines-from-d-requires : tie.Need-lines_from_d-requires
-lines-from-d-requires c κs = ((n-read c.before).within, few c.before)
+lines-from-d-requires c κs = ((n-read c).within, few c)
 
 returns-2 : tie.Need-returns
 unfolding sheet_lines
 returns-2 c =
-    let read = c.before.before in
+    let read = c.before in
     c.lines_from_d.ensures ∙ ap (answered (s (found read))) (sym (then-got lines_from_d (n-read read).gives))
 
 pub sheet_lines_spec : {M : Type 1} → statement M

@@ -73,7 +73,7 @@ module _ (c : tie.After-is_row invariant-loop decreases-loop invariant-loop2 dec
 decides_g : (c : tie.After-loop-place invariant-loop decreases-loop invariant-loop2 decreases-loop2)
     → let at = c.before.before in
     let code = code_of1 (of_g at) in
-    are_rows code.n code.r code.g-1 ≡ are_identities at.loop-place.g
+    are_rows code.n code.r code.g ≡ are_identities at.loop-place.g
 decides_g c = passing-all _ _ _ c.loop-place.invariant c.loop-place-test.false
 
 -- ---- the x and z rows
@@ -123,13 +123,13 @@ module _ (c : tie.After-are_unused invariant-loop decreases-loop invariant-loop2
   code_at_end = code_of1 (of_xz at_end)
 
   families-are : c.are_unused.result
-      ≡ (are_rows code_at_end.n code_at_end.r code_at_end.g-1
-      && are_rows code_at_end.n (logical_count code_at_end) code_at_end.x-1
-      && are_rows code_at_end.n (logical_count code_at_end) code_at_end.z-1)
+      ≡ (are_rows code_at_end.n code_at_end.r code_at_end.g
+      && are_rows code_at_end.n (logical_count code_at_end) code_at_end.x
+      && are_rows code_at_end.n (logical_count code_at_end) code_at_end.z)
   families-are =
       let done = c.loop-place-2-test.false in
-      let x = told at_end code_at_end.x-1 (passing-all _ _ _ at_end.loop-place-2.invariant.0 done) in
-      let z = told at_end code_at_end.z-1 (passing-all _ _ _ at_end.loop-place-2.invariant.1 done) in
+      let x = told at_end code_at_end.x (passing-all _ _ _ at_end.loop-place-2.invariant.0 done) in
+      let z = told at_end code_at_end.z (passing-all _ _ _ at_end.loop-place-2.invariant.1 done) in
       c.are_unused.ensures
       ∙ ap₂ (λ a b. a && b) (ap₂ (λ a b. a && b) (sym (decides_g (behind_g at_end))) (sym x)) (sym z)
 
@@ -158,7 +158,7 @@ loop2-holds : tie.Need-loop-place-2-init invariant-loop decreases-loop invariant
 loop2-holds c =
     let g = c.before.before.before in
     let one = of_g g.before.before in
-    let sized = sized_of (code_of1 one) one.good.0 in
+    let sized = sized_of (code_of1 one) one.well_formed.0 in
     let few : c.pair_count-k.result ≤ row_room =
     omega (arith, sizes one, pairs-read c.before.before) in
     (passing-none _ _ _ sized.room_x few, passing-none _ _ _ sized.room_z few)
@@ -192,11 +192,11 @@ returns-5 c = families-outside _ (failed (families-are c.before) c.if-not-are_un
 
 returns-6 : tie.Need-returns invariant-loop decreases-loop invariant-loop2 decreases-loop2
 returns-6 c =
-    let unused = c.before.before in
+    let unused = c.before.before.before in
     c.is_claim.ensures
     ∙ claim-decides (code_at_end unused) (numbers-hold (of_xz (at_end unused)))
-    (passed (families-are unused) c.if-not-are_unused.false)
+    (passed (families-are unused) c.if-not-are_unused.false-raw)
 
 pub within_limits_spec : {M : Type 1} → statement M
 within_limits_spec =
-    tie.close (tie.spec invariant-loop decreases-loop invariant-loop2 decreases-loop2 (λ c κs. search rules) returns (λ c κs. search rules) loop-holds (λ c. search rules) (λ c. search rules) (λ c κs. (sizes (of_g c.before.before.before)).0) returns-2 (λ c. search rules) (λ c. search rules) (λ c. search rules) (λ c. search rules) loop-again (λ c κs. search rules) loop2-holds (λ c. search rules) (λ c. search rules) (λ c κs. (sizes (of_xz c.before.before)).0) returns-3 (λ c. search rules) (λ c. search rules) (λ c. search rules) (λ c. search rules) (λ c κs. (sizes (of_xz (at_x c.before.before))).0) returns-4 (λ c. search rules) (λ c. search rules) (λ c. search rules) (λ c. search rules) loop2-again (λ c κs. search rules) returns-5 (λ c κs. (sizes (of_xz (at_end c.before))).0) returns-6)
+    tie.close (tie.spec invariant-loop decreases-loop invariant-loop2 decreases-loop2 (λ c κs. search rules) returns (λ c κs. search rules) loop-holds (λ c. search rules) (λ c. search rules) (λ c κs. (sizes (of_g c.before.before.before)).0) returns-2 (λ c. search rules) (λ c. search rules) (λ c. search rules) (λ c. search rules) loop-again (λ c κs. search rules) loop2-holds (λ c. search rules) (λ c. search rules) (λ c κs. (sizes (of_xz c.before.before)).0) returns-3 (λ c. search rules) (λ c. search rules) (λ c. search rules) (λ c. search rules) (λ c κs. (sizes (of_xz (at_x c.before.before))).0) returns-4 (λ c. search rules) (λ c. search rules) (λ c. search rules) (λ c. search rules) loop2-again (λ c κs. search rules) returns-5 (λ c κs. (sizes (of_xz (at_end c.before.before))).0) returns-6)

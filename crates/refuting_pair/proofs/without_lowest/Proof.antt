@@ -20,12 +20,12 @@ unfolding without_lowest without_one
 loop-again c =
     let at = c.before.before in
     let next : at.loop-left.left ≡ suc (at.loop-left.left - 1) = omega (arith, c.loop-left-test.true) in
-    ap (λ (left : ℕ). without_lowest left at.loop-left.auto) (sym next) ∙ at.loop-left.invariant
+    ap (λ (left : ℕ). without_lowest left at.loop-left.kept) (sym next) ∙ at.loop-left.invariant
 
 returns : tie.Need-returns-else-kept-gt0 invariant-loop decreases-loop
 returns c =
     let at = c.before.before in
-    let none : at.loop-left.auto ≡ 0 = omega (arith, ltb-false) in
+    let none : at.loop-left.kept ≡ 0 = omega (arith, ltb-false) in
     none ∙ sym (ap (without_lowest at.loop-left.left) none ∙ lowest-of-none at.loop-left.left) ∙ at.loop-left.invariant
 
 returns-2 : tie.Need-returns-after-loop-left invariant-loop decreases-loop
@@ -33,7 +33,7 @@ unfolding without_lowest
 returns-2 c =
     let at = c.before in
     let none : 0 ≡ at.loop-left.left = omega (arith, c.loop-left-test.false) in
-    ap (λ (left : ℕ). without_lowest left at.loop-left.auto) none ∙ at.loop-left.invariant
+    ap (λ (left : ℕ). without_lowest left at.loop-left.kept) none ∙ at.loop-left.invariant
 
 pub without_lowest_spec : {M : Type 1} → statement M
 without_lowest_spec =

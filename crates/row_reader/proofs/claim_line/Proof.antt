@@ -34,7 +34,7 @@ returns c =
       gives =
           λ at. sym
           (claim-other _ at _
-          (λ e. other-kind LineKind.Claim c.in_default.in_default-own.keys2 (c.line_kind.ensures ∙ e)));
+          (λ e. c.in_default.not-Claim (c.line_kind.ensures ∙ e)));
     }
 
 returns-2 : tie.Need-returns-in_default-line_letters
@@ -43,24 +43,24 @@ returns-2 c =
     let none = sym found.line_letters.ensures ∙ ap row_in c.in_default-line_letters.is in
     record { within = omega arith; gives = λ at. sym (claim-no-letters _ at _ (keyed found.before) none) }
 
-abbrev start-of-row : tie.In-Got-2 → tie.Start
+abbrev start-of-row : tie.In-Got → tie.Start
 start-of-row c = start c.before.before
 
-letters-are : (c : tie.In-Got-2)
+letters-are : (c : tie.In-Got)
     → value_from 2 (start-of-row c).args.n (up_to most_qubits read_letters) (s (start-of-row c))
     ≡ some c.in-Got.row
 letters-are c = sym c.line_letters.ensures ∙ ap row_in c.in-Got.is
 
-within : (c : tie.In-Got-2) → (start-of-row c).args.n + 2 < length (s (start-of-row c))
+within : (c : tie.In-Got) → (start-of-row c).args.n + 2 < length (s (start-of-row c))
 within c =
     value-within 2 (start-of-row c).args.n (up_to most_qubits read_letters) (s (start-of-row c)) (letters-are c)
 
 add-t6 : tie.Need-overflow_add-result
-add-t6 c = omega (arith, within c.before)
+add-t6 c = omega (arith, within c)
 
 returns-3 : tie.Need-returns
 returns-3 c =
-    let row = c.before in
+    let row = c in
     let key = keyed row.before.before in
     record {
       within = omega (arith, within row);

@@ -16,17 +16,17 @@ use Rattle.row_reader.proofs.LetterLines.{row-no-letters, row-no-sign, row-value
 use Rattle.row_reader.proofs.signed_row.Statement.{statement}
 use Rattle.row_reader.proofs.signed_row.Tie as tie
 
-abbrev start : tie.In-Got-2 → tie.Start
+abbrev start : tie.In-Got → tie.Start
 start c = c.before.before.before
 
 abbrev s : tie.Start → List ℕ
 s c = c.args.s.now
 
-letters-are : (c : tie.In-Got-2)
+letters-are : (c : tie.In-Got)
     → value_from 3 (start c).args.n (up_to most_qubits read_letters) (s (start c)) ≡ some c.in-Got.plus
 letters-are c = sym c.line_letters.ensures ∙ ap row_in c.in-Got.is
 
-within : (c : tie.In-Got-2) → (start c).args.n + 3 < length (s (start c))
+within : (c : tie.In-Got) → (start c).args.n + 3 < length (s (start c))
 within c = value-within 3 (start c).args.n (up_to most_qubits read_letters) (s (start c)) (letters-are c)
 
 returns : tie.Need-returns-in_default
@@ -35,7 +35,7 @@ returns c =
     record { within = omega arith; gives = λ at. sym (row-no-letters _ at _ none) }
 
 shared-slice-read-read : tie.Need-bounds-s-2
-shared-slice-read-read c = omega (arith, within c.before.before)
+shared-slice-read-read c = omega (arith, within c.before)
 
 returns-2 : tie.Need-returns-in_default-read
 returns-2 c =
@@ -43,14 +43,13 @@ returns-2 c =
     record { within = omega arith; gives = λ at. sym (row-no-sign _ at _ none) }
 
 add-t9 : tie.Need-overflow_add-result
-add-t9 c = omega (arith, within c.before.before.before.before.before.before)
+add-t9 c = omega (arith, within c.before.before.before)
 
 returns-3 : tie.Need-returns
 returns-3 c =
-    let sign = c.before.before in
-    let plus = sign.before.before.before.before.before in
+    let plus = c.before.before.before.before in
     let n = (start plus).args.n in
-    let told = sym sign.read.ensures ∙ ap sign_in sign.in-Got-read.is in
+    let told = sym c.read.ensures ∙ ap sign_in c.in-Got-read.is in
     record {
       within = omega (arith, within plus);
       gives =

@@ -97,6 +97,9 @@ returns-2 c =
 inside : tie.Need-slice_bounds-rows_up_to-count
 inside c = (x-gathered c.before.before).within
 
+inside-start : tie.Need-slice_bounds-rows_up_to-start
+inside-start c = (x-gathered c.before.before).within
+
 add-off-form : tie.Need-overflow_add-k
 add-off-form c =
     let line = c.before.before.before in
@@ -133,4 +136,4 @@ returns-4 c =
 
 pub logical_lines_spec : {M : Type 1} → statement M
 logical_lines_spec =
-    tie.close (tie.spec (λ c κs. search rules) returns (λ c κs. search rules) (λ c κs. search rules) (λ c κs. search rules) returns-2 inside (λ c. search rules) (λ c. search rules) (λ c κs. search rules) add-off-form (λ c κs. search rules) returns-3 add-t13 returns-4)
+    tie.close (tie.spec (λ c κs. search rules) returns (λ c κs. search rules) (λ c κs. search rules) (λ c κs. search rules) returns-2 inside inside-start (λ c. search rules) (λ c κs. search rules) add-off-form (λ c κs. search rules) returns-3 add-t13 returns-4)

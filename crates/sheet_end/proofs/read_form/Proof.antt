@@ -9,13 +9,13 @@ use borrow.Author.Rules.{rules}
 use Rattle.sheet_end.proofs.read_form.Statement.{statement}
 use Rattle.sheet_end.proofs.read_form.Tie as tie
 
-abbrev start : tie.In-Read-2 → tie.Start
+abbrev start : tie.In-Read → tie.Start
 start c = c.before.before.before
 
-abbrev reading : tie.In-Read-2 → LinesReading
+abbrev reading : tie.In-Read → LinesReading
 reading c = c.read_lines-reading.result
 
-is_read : (c : tie.In-Read-2) → reading c ≡ answered (start c).args.s.now (read_lines (start c).args.s.now)
+is_read : (c : tie.In-Read) → reading c ≡ answered (start c).args.s.now (read_lines (start c).args.s.now)
 unfolding lines_reading
 is_read c = c.read_lines-reading.ensures
 
@@ -27,14 +27,14 @@ returns c =
 
 add-off-form : tie.Need-overflow_add-reading
 add-off-form c =
-    let at = c.before.before.before in
+    let at = c.before.before in
     let s = (start at).args.s.now in
     omega (arith, ap (λ x. x.claim_at) (is_read at), claim-near s (read_lines s) (reads-are-lawful s))
 
 returns-2 : tie.Need-returns-then-used-s
 unfolding form_reading read_form
 returns-2 c =
-    let at = c.before.before.before.before in
+    let at = c.before.before.before in
     let s = (start at).args.s.now in
     c.off_form.ensures
     ∙ form-behind s (reading at) at.in-Read.is (read_lines s) (is_read at) c.if-used-s.true
@@ -42,7 +42,7 @@ returns-2 c =
 returns-3 : tie.Need-returns
 unfolding form_reading read_form
 returns-3 c =
-    let at = c.before.before in
+    let at = c.before in
     let s = (start at).args.s.now in
     form-whole s (reading at) at.in-Read.is (read_lines s) (is_read at) c.if-used-s.false (read-within s)
 

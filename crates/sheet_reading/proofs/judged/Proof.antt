@@ -24,7 +24,7 @@ returns c = answered c.before c.in-Passed.is
 returns-2 : tie.Need-returns-in-Refused
 unfolding reading_of
 returns-2 c =
-    let told = c.before.before in
+    let told = c.before in
     c.refused.ensures ∙ answered told.before told.in-Refused.is
 
 pub judged_spec : {M : Type 1} → statement M

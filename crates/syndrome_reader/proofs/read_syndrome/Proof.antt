@@ -61,7 +61,7 @@ module _ (c : tie.In-Mask invariant-loop decreases-loop) where
   bit_is = sym c.in-Mask.is ∙ character_is read
 
   small : at.loop-place.mask < 2 ^ 31
-  small = mask-room (characters at) at.loop-place.place read.loop-place-test.taken at.loop-place.mask
+  small = mask-room (characters at) at.loop-place.place read.loop-place-test.true at.loop-place.mask
       (omega (arith, few at, count at)) at.loop-place.invariant.1
 
 -- ---- the needs
@@ -101,9 +101,9 @@ add-mask c = record { fits = omega (arith, small c, bit-small _ (bit c) (bit_is 
 loop-again : tie.Need-loop-place-preserved invariant-loop decreases-loop
 loop-again c =
     let l = (at c).loop-place in (
-      omega (arith, l.inv.0),
+      omega (arith, l.invariant.0),
       character-step (characters (at c)) l.place (read c).loop-place-test.true (bit c) l.mask
-          l.inv.0 l.inv.1 (bit_is c),
+          l.invariant.0 l.invariant.1 (bit_is c),
     )
 
 returns-4 : tie.Need-returns invariant-loop decreases-loop

@@ -45,7 +45,7 @@ loop-again : tie.Need-loop-place-preserved invariant-loop decreases-loop
 loop-again c =
     let turn = c.before.before in
     let at = turn.before in
-    let start = at.before.before.before.before in
+    let start = at.before.before.before.before.before in
     let place = at.loop-place.place in
     let inside = at.loop-place.invariant.1 in
     let some = turn.loop-place-test.true in

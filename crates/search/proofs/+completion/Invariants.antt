@@ -1,0 +1,22 @@
+use Rattle.std.proofs.Common.{◌≡◌, ◌≤◌}
+use mathlib.Core.Option.{none}
+use Rattle.letter_sums.specs.Sums.{earliest_of}
+use Rattle.letter_sums.proofs.Words.{NoneBelow}
+use Rattle.search.proofs.+completion.Given as goal
+
+abbrev pub decreases-completion : goal.decreases-completion
+decreases-completion l = l.weight
+
+abbrev pub invariant-loop-right : goal.invariant-loop-right
+invariant-loop-right l =
+    earliest_of l.first l.second l.right l.weight l.want l.shun ≡ none
+
+abbrev pub invariant-loop-letter : goal.invariant-loop-letter
+invariant-loop-letter l =
+    (l.letter ≤ 3) × NoneBelow l.first l.second l.right l.letters l.want l.shun l.letter
+
+abbrev pub invariant-search : goal.invariant-search
+invariant-search l = Unit {0}
+
+abbrev pub decreases-search : goal.decreases-search
+decreases-search l = 0
