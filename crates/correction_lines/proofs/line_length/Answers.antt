@@ -9,8 +9,8 @@ use Rattle.correction_lines.proofs.line_length.Goals as goal
 pub returns-in-Found : goal.returns-in-Found
 returns-in-Found c =
     let n = c.args.n in
-    let told = c.enum_told-1.given in
-    sym (length_found n told.0.0) ∙ ap (λ (k : Correction). length (correction_text n k)) (sym told.1)
+    sym (length_found n c.in-Found.field-0)
+    ∙ ap (λ (k : Correction). length (correction_text n k)) (sym c.in-Found.is)
 
 pub returns-in-None : goal.returns-in-None
 returns-in-None c =
