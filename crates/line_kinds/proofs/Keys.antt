@@ -9,7 +9,6 @@ use borrow.Author.Tests.{eqb-true, eq-eqb}
 use lib.Dec.{eqb}
 use lib.ListN.{take}
 use denote.Enum.Declared.{tag_of}
-use borrow.Enum.Refused.{Among, opened}
 use types.Run.{OneOf, miss}
 use Rattle.letters.specs.Lists.{bytes, read_byte, first_of}
 use Rattle.refusals.specs.declared.Family.{Family}
@@ -93,8 +92,8 @@ others Claim = 0 ∷ 1 ∷ 2 ∷ 3 ∷ 4 ∷ 6 ∷ 7 ∷ []
 others Syndrome = 0 ∷ 1 ∷ 2 ∷ 3 ∷ 4 ∷ 5 ∷ 7 ∷ []
 others Other = 0 ∷ 1 ∷ 2 ∷ 3 ∷ 4 ∷ 5 ∷ 6 ∷ []
 
-pub other-kind : (k : LineKind) {kind : LineKind} → Among (others k) (tag_of the_type kind) → kind ≡ k → ⊥
-other-kind k h e = apart k (subst (λ x. OneOf (others k) (tag_of the_type x)) e (opened h))
+pub other-kind : (k : LineKind) {kind : LineKind} → OneOf (others k) (tag_of the_type kind) → kind ≡ k → ⊥
+other-kind k h e = apart k (subst (λ x. OneOf (others k) (tag_of the_type x)) e h)
   where
     apart : (k : LineKind) → OneOf (others k) (tag_of the_type k) → ⊥
     apart Qubits = miss (others Qubits) 0 tt

@@ -31,9 +31,9 @@ pub returns-then-left-length : goal.returns-then-left-length
 returns-then-left-length c =
     let a = c.args in
     let told = sym (c.read_syndrome_line.ensures ∙ ap (mask_line a.r) (tail_of c.loop-place.place a.syndromes.now))
-        ∙ c.in-Mask.is in
+    ∙ c.in-Mask.is in
     let counted = c.line_length-length.ensures
-        ∙ ap (λ (k : Correction). length (correction_text a.words.qubits k)) c.correct_by.ensures in
+    ∙ ap (λ (k : Correction). length (correction_text a.words.qubits k)) c.correct_by.ensures in
     no-fit a.words a.t a.r a.syndromes.now a.room c.loop-place.invariant told
     (omega (arith, c.if-left-length.true, counted))
 
@@ -41,14 +41,14 @@ pub overflow_add-place : goal.overflow_add-place
 overflow_add-place c =
     let a = c.args in
     let told = sym (c.read_syndrome_line.ensures ∙ ap (mask_line a.r) (tail_of c.loop-place.place a.syndromes.now))
-        ∙ c.in-Mask.is in
+    ∙ c.in-Mask.is in
     omega (arith, mask-few a.r _ told)
 
 pub overflow_add-place-in-loop-place : goal.overflow_add-place-in-loop-place
 overflow_add-place-in-loop-place c =
     let a = c.args in
     let told = sym (c.read_syndrome_line.ensures ∙ ap (mask_line a.r) (tail_of c.loop-place.place a.syndromes.now))
-        ∙ c.in-Mask.is in
+    ∙ c.in-Mask.is in
     let within = line-within a.words a.t a.r a.syndromes.now c.loop-place.invariant.passed told in
     record { fits = lt_of_le_of_lt within (search rules) }
 
@@ -56,7 +56,7 @@ pub loop-place-smaller : goal.loop-place-smaller
 loop-place-smaller c =
     let a = c.args in
     let told = sym (c.read_syndrome_line.ensures ∙ ap (mask_line a.r) (tail_of c.loop-place.place a.syndromes.now))
-        ∙ c.in-Mask.is in
+    ∙ c.in-Mask.is in
     let within = line-within a.words a.t a.r a.syndromes.now c.loop-place.invariant.passed told in
     omega (arith, within)
 
@@ -65,9 +65,9 @@ loop-place-preserved c =
     let a = c.args in
     let l = c.loop-place in
     let told = sym (c.read_syndrome_line.ensures ∙ ap (mask_line a.r) (tail_of c.loop-place.place a.syndromes.now))
-        ∙ c.in-Mask.is in
+    ∙ c.in-Mask.is in
     let counted = c.line_length-length.ensures
-        ∙ ap (λ (k : Correction). length (correction_text a.words.qubits k)) c.correct_by.ensures in
+    ∙ ap (λ (k : Correction). length (correction_text a.words.qubits k)) c.correct_by.ensures in
     subst (λ (length : ℕ). Left a.words a.t a.r a.syndromes.now a.room (l.place + (a.r + 3)) (l.left - length))
     (sym counted)
     (left-more a.words a.t a.r a.syndromes.now a.room l.invariant told

@@ -133,8 +133,8 @@ loop-again c =
     (left_is tested) (sym tested.is_phase.ensures ∙ q.if-is_phase.false) q.modulo4-left.ensures refl
     (placed loop3.loop-at-2.invariant loop3.loop-at-2-test.false loop4.loop-at-3.invariant apart
     (λ some. elim c.loop-at-3-test.branch [
-      else-loop-at-3-test w ↦ absurd (omega (arith, w.loop-at-3-test.false))
-    | then-loop-at-3-test+then-pivot-first w ↦ omega (arith, w.if-pivot-first.true, w.pivot.ensures, loop4.pivot-first.ensures)
+      | else-loop-at-3-test w ↦ absurd (omega (arith, w.loop-at-3-test.false))
+      | then-loop-at-3-test+then-pivot-first w ↦ omega (arith, w.if-pivot-first.true, w.pivot.ensures, loop4.pivot-first.ensures)
     ]))
 
 returns-2 : tie.Need-returns-else-place-count invariant-loop2 decreases-loop2 invariant-loop3 decreases-loop3 invariant-loop4 decreases-loop4 invariant-loop decreases-loop

@@ -1,7 +1,6 @@
 -- For each family, the kind of the line is its own, or another.
 use Rattle.refusals.specs.declared.Family.{Family}
-use Rattle.line_kinds.specs.declared.LineKind.{LineKind}
-use Rattle.line_kinds.proofs.Keys.{other-kind, row-begins, no-row-begins}
+use Rattle.line_kinds.proofs.Keys.{row-begins, no-row-begins}
 use Rattle.line_kinds.proofs.begins_row.Goals as goal
 
 pub returns-in_default : goal.returns-in_default
@@ -17,7 +16,7 @@ returns-in_default-kind c =
 pub returns-in_default-kind-2 : goal.returns-in_default-kind-2
 returns-in_default-kind-2 c =
     no-row-begins _ c.line_kind-kind.ensures Family.LogicalZ c.in-LogicalZ.is
-    (other-kind LineKind.LogicalZ c.in_default-kind-2.in_default-kind-2-own.keys2)
+    c.in_default-kind-2.not-LogicalZ
 
 pub returns-in-Generator-kind : goal.returns-in-Generator-kind
 returns-in-Generator-kind c =

@@ -4,7 +4,6 @@ use native.Mathlib.Omega.{arith}
 use Rattle.refusals.specs.declared.Refusal.{Refusal}
 use Rattle.code_record.specs.Record.{most_distance}
 use Rattle.line_kinds.specs.declared.LineKind.{LineKind}
-use Rattle.line_kinds.proofs.Keys.{other-kind}
 use Rattle.number_reader.proofs.NumberLines.{distance-line-form, number-of-other, number-of-kind}
 use Rattle.number_reader.proofs.distance_line.Goals as goal
 

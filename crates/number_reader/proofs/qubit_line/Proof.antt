@@ -7,7 +7,6 @@ use Rattle.refusals.specs.declared.Refusal.{Refusal}
 use Rattle.code_record.specs.Record.{most_qubits}
 use Rattle.sheet.specs.Reader.{qubit_digits}
 use Rattle.line_kinds.specs.declared.LineKind.{LineKind}
-use Rattle.line_kinds.proofs.Keys.{other-kind}
 use Rattle.number_reader.proofs.NumberLines.{digits-few, qubit-line-form, number-of-other, number-of-kind}
 use Rattle.number_reader.proofs.qubit_line.Statement.{statement}
 use Rattle.number_reader.proofs.qubit_line.Tie as tie

@@ -56,9 +56,9 @@ overflow_add-result t c =
 pub returns-clause-value : goal.returns-clause-value
 returns-clause-value t c =
     (more c.args.m c.if-m-lt10.false c.args.out.now c.digits-end.new.out c.digits-end.result c.requires
-      c.digits-end.ensures.value c.digits-end.ensures.out_after c.digits-end.auto.out).count
+    c.digits-end.ensures.value c.digits-end.ensures.out_after c.digits-end.auto.out).count
 
 pub returns-clause-out_after : goal.returns-clause-out_after
 returns-clause-out_after t c =
     (more c.args.m c.if-m-lt10.false c.args.out.now c.digits-end.new.out c.digits-end.result c.requires
-      c.digits-end.ensures.value c.digits-end.ensures.out_after c.digits-end.auto.out).content
+    c.digits-end.ensures.value c.digits-end.ensures.out_after c.digits-end.auto.out).content

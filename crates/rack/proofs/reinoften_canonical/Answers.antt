@@ -10,10 +10,10 @@ use Rattle.rack.proofs.reinoften_canonical.Goals as goal
 pub shape_of-out : goal.shape_of-out
 unfolding write_canonical
 shape_of-out c =
-    ap length c.write_canonical.ensures.1 ∙ length-written _ _ _
+    ap length c.write_canonical.ensures.out_after ∙ length-written _ _ _
 
 pub returns : goal.returns
 unfolding canonical_call in_numbers
 returns c =
     let made = c.write_canonical.ensures in
-    (c.of_written.ensures ∙ ap written_answer made.0, made.1)
+    record { value = c.of_written.ensures ∙ ap written_answer made.value; out_after = made.out_after }

@@ -18,10 +18,10 @@ counted n (Decoded.Refused refusal) = refl
 
 pub shape_of-out : goal.shape_of-out
 shape_of-out c =
-    ap length c.decode_letters.ensures.1 ∙ length-decoded _ _ _
+    ap length c.decode_letters.ensures.out_after ∙ length-decoded _ _ _
 
 pub returns : goal.returns
 unfolding decode_call in_numbers
 returns c =
     let made = c.decode_letters.ensures in
-    (c.of_letters.ensures ∙ ap letters_answer made.0 ∙ counted _ _, made.1)
+    record { value = c.of_letters.ensures ∙ ap letters_answer made.value ∙ counted _ _; out_after = made.out_after }

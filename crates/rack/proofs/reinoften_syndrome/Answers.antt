@@ -17,10 +17,10 @@ counted r (SyndromeAnswer.Refused refusal) = refl
 
 pub shape_of-out : goal.shape_of-out
 shape_of-out c =
-    ap length c.write_characters.ensures.1 ∙ length-measured _ _ _
+    ap length c.write_characters.ensures.out_after ∙ length-measured _ _ _
 
 pub returns : goal.returns
 unfolding syndrome_call in_numbers
 returns c =
     let made = c.write_characters.ensures in
-    (c.of_written.ensures ∙ ap written_answer made.0 ∙ counted _ _, made.1)
+    record { value = c.of_written.ensures ∙ ap written_answer made.value ∙ counted _ _; out_after = made.out_after }

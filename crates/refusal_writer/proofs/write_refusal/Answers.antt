@@ -40,5 +40,5 @@ pub returns-in_default : goal.returns-in_default
 unfolding write_refusal write_numbers
 returns-in_default c =
     let told = plain-answers c.args.refusal (no-errors c.args.refusal c.in_default.not-DistanceRefuted) c.args.out.now
-        c.values-values.result c.values-values.ensures (c.write_numbers.ensures.value, c.write_numbers.ensures.out_after) in
+    c.values-values.result c.values-values.ensures (c.write_numbers.ensures.value, c.write_numbers.ensures.out_after) in
     record { value = told.0; out_after = told.1 }

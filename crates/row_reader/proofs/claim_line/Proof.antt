@@ -11,7 +11,6 @@ use Rattle.sheet.specs.Reader.{read_letters}
 use Rattle.line_kinds.specs.declared.LineKind.{LineKind}
 use Rattle.line_kinds.specs.LineKinds.{line_kind}
 use Rattle.line_parts.specs.Values.{row_in, up_to}
-use Rattle.line_kinds.proofs.Keys.{other-kind}
 use Rattle.line_parts.specs.LineValues.{value_from}
 use Rattle.line_parts.proofs.LineValues.{value-within}
 use Rattle.row_reader.proofs.LetterLines.{claim-other, claim-no-letters, claim-value}

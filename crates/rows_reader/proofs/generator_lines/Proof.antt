@@ -76,7 +76,6 @@ returns c = (
   rows_before c.refused.ensures _ (omega arith),
   λ at. rows_none c.refused.ensures _ at (ap (λ m. Lines.Refused (Refusal.Form m)) (omega arith))
       (many-qubits _ at _ _ c.if-n-gt-MOST_QUBITS.true),
-
 )
 
 inside : (c : tie.After-rows_up_to-read) → (read c).end ≤ length (s c)

@@ -82,7 +82,6 @@ returns : tie.Need-returns-then-n-gt-MOST_QUBITS
 returns c = (
   logicals-before c.off_form.ensures _ (omega arith),
   λ at. logicals-none c.off_form.ensures _ at (omega arith) (many-qubits _ at _ _ c.if-n-gt-MOST_QUBITS.true),
-
 )
 
 returns-2 : tie.Need-returns-then-xs-k

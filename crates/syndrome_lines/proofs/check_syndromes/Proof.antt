@@ -81,6 +81,6 @@ loop-again c = checked-more (r (here c)) (s (here c)) (here c).loop-end.invarian
 returns-2 : tie.Need-returns invariant-loop decreases-loop
 returns-2 c = checked-all (r c.before) (s c.before) c.loop-end.invariant (search rules)
 
-pub check-syndromes-spec : {M : Type 1} → statement M
-check-syndromes-spec =
+pub check_syndromes_spec : {M : Type 1} → statement M
+check_syndromes_spec =
     tie.close (tie.spec invariant-loop decreases-loop loop-holds (λ c. search rules) (λ c. search rules) (λ c. search rules) (λ c κs. search rules) (λ c. search rules) (λ c. search rules) returns add-end add-end-2 add-count loop-less loop-again returns-2)

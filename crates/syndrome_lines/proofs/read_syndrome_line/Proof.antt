@@ -12,7 +12,6 @@ use lib.ListN.{get_or}
 use Rattle.sheet.specs.Text.{line_feed}
 use Rattle.line_kinds.specs.declared.LineKind.{LineKind}
 use Rattle.line_kinds.specs.LineKinds.{line_kind}
-use Rattle.line_kinds.proofs.Keys.{other-kind}
 use Rattle.line_parts.proofs.LineValues.{feed-within}
 use Rattle.decoder.specs.Syndrome.{read_syndrome}
 use Rattle.syndrome_lines.proofs.Lines.{mask-other, mask-many, mask-no-feed, mask-read}
@@ -38,7 +37,7 @@ keyed c =
 
 returns : tie.Need-returns-in_default
 returns c =
-    sym (mask-other _ _ (λ e. other-kind LineKind.Syndrome c.in_default.in_default-own.keys2 (c.line_kind.ensures ∙ e)))
+    sym (mask-other _ _ (λ e. c.in_default.not-Syndrome (c.line_kind.ensures ∙ e)))
 
 returns-2 : tie.Need-returns-then-r-gt-ROW_ROOM
 returns-2 c = sym (mask-many _ _ c.if-r-gt-ROW_ROOM.true)
@@ -54,6 +53,6 @@ returns-4 c =
     let form = c.before.before in
     c.read_syndrome.ensures ∙ sym (mask-read (r form) (s form) (keyed form) (ended form))
 
-pub read-syndrome-line-spec : {M : Type 1} → statement M
-read-syndrome-line-spec =
+pub read_syndrome_line_spec : {M : Type 1} → statement M
+read_syndrome_line_spec =
     tie.close (tie.spec (λ c κs. search rules) (λ c. search rules) returns returns-2 (λ c. search rules) (λ c κs. search rules) returns-3 (λ c. search rules) (λ c. search rules) (λ c. search rules) part-read-syndrome-end (λ c κs. search rules) returns-4)

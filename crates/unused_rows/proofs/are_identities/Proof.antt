@@ -43,7 +43,6 @@ loop-again c = (
   c.loop-place.invariant.0,
   omega arith,
   left c.before (passed c.is_identity.ensures c.if-not-is_identity.false-raw),
-
 )
 
 returns-2 : tie.Need-returns invariant-loop decreases-loop

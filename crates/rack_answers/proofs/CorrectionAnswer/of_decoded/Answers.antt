@@ -7,8 +7,7 @@ use Rattle.rack_answers.proofs.CorrectionAnswer.of_decoded.Goals as goal
 
 pub returns-in-Correction : goal.returns-in-Correction
 returns-in-Correction c =
-    let found = c.answer-1.given in
-    ap with-correction c.done.ensures ∙ ap correction_answer (sym found.1)
+    ap with-correction c.done.ensures ∙ ap correction_answer (sym c.in-Correction.is)
   where
     with-correction : Answer → CorrectionAnswer
     with-correction answer = record { answer = answer; correction = c.in-Correction.correction }
