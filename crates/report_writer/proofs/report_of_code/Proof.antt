@@ -41,7 +41,7 @@ module _ (c : tie.After-check_syndromes) where
 
 -- The refusal that is written names the line behind w and as many more as were read.
 refused : (c : tie.After-write_refusal)
-    → let told = c.before.before.before in
+    → let told = c.before.before in
     let at = (start told.before).args.at in
     c.write_refusal.result
     ≡ (write_refusal (Refusal.Syndrome (at + 1 + told.in-OffForm.before)) (buffer told.before)).answer
@@ -65,7 +65,7 @@ returns-2 : tie.Need-returns-in-OffForm
 unfolding write_by_fault lines_fault
 returns-2 c =
     let call = c.before.before in
-    let told = c.before.before.before.before.before in
+    let told = c.before.before.before.before in
     let e = by_answer told.before told.in-OffForm.is in
     (refused call ∙ ap (λ after. after.answer) e, call.write_refusal.ensures.1 ∙ ap (λ after. after.buffer) e)
 

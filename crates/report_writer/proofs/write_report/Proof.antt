@@ -55,16 +55,16 @@ returns : tie.Need-returns-in-Refused
 returns c =
     let call = c.write_refusal in
     let read = c.before.before.before.before.before in
-    let told = c.lines.given in
+    let told = c.in-Refused in
     ends_with (input read) (buffer read)
-    (stopped-report (input read) (buffer read) told.0.0
-    (lines-stopped (input read) (reading read) read.read_lines-reading.ensures told.0.0 told.1))
+    (stopped-report (input read) (buffer read) told.refusal
+    (lines-stopped (input read) (reading read) read.read_lines-reading.ensures told.refusal told.is))
     call.ensures.0 call.ensures.1
 
 returns-2 : tie.Need-returns-in-Refused-answer
 returns-2 c =
     let call = c.write_refusal-in-Refused-answer in
-    let told = c.before.before.before.before.before in
+    let told = c.before.before.before.before in
     let checks = told.before in
     let read = lines checks in
     ends_with (input read) (buffer read)
