@@ -1,8 +1,8 @@
 -- The digits of a number below 10 are one byte; those of another are its tenth's, which the function writes by calling
 -- itself, and one byte behind them.
-use mathlib.Core.List.{List, [], ◌∷◌, ◌++◌}
+use mathlib.Core.List.{List}
 use mathlib.Core.Path.{◌≡◌, ap, sym, subst, ◌∙◌}
-use Rattle.std.proofs.Common.{ℕ, ◌+◌, ◌/◌, ◌%◌, ◌<◌, ◌≤◌, arith, length, rules}
+use Rattle.std.proofs.Common.{ℕ, ◌+◌, ◌/◌, ◌%◌, ◌<◌, ◌≤◌, arith, length}
 use lib.ListN.{set}
 use Rattle.sheet.specs.Text.{decimal, laid}
 use Rattle.sheet.proofs.Lengths.{decimal-one, decimal-snoc}
