@@ -3,7 +3,7 @@
 -- the characters of E's syndrome on the first buffer, whose first r bytes are then these characters; `Guarantee` says
 -- what the decode call makes of them. No line and no check but that of the distance refuses with 14. So a sheet that is
 -- refused with it is admissible but for distance, and `Guarantee` says what its two errors are.
-use mathlib.Core.Bool.{Bool, true, false, true≢false, false≢true}
+use mathlib.Core.Bool.{Bool, false, true≢false, false≢true}
 use mathlib.Core.List.{List, []}
 use mathlib.Core.Logic.{◌⊎◌, inl, inr, ⊎_elim}
 use mathlib.Core.Option.{Option, none, some, some-injective}

@@ -25,7 +25,6 @@ use Rattle.sheet.specs.Text.{laid, untouched, guarded, room_fault}
 use Rattle.sheet.proofs.Lengths.{length-generators}
 use Rattle.sheet.proofs.WrittenText.{refuse_if-true, refuse_if-false, limits-broken, limits-kept}
 use Rattle.letter_words.specs.Words.{word_qubits, earliest_with}
-use Rattle.decoder.specs.declared.Decoded.{Decoded}
 use Rattle.decoder.specs.Correction.{correction, corrected, decode}
 use Rattle.decoder.specs.Syndrome.{read_syndrome, syndrome_fault, is_none}
 use Rattle.decoder.proofs.Bits.{read_length, syndrome-written}

@@ -20,7 +20,6 @@ use Rattle.refusals.specs.Refusals.{◌then◌}
 use Rattle.sheet.specs.Text.{laid, untouched, guarded, room_fault}
 use Rattle.sheet.proofs.Laid.{length_taken, byte-laid}
 use Rattle.sheet.proofs.WrittenText.{refuse_if-true, refuse_if-false, limits-broken, limits-kept}
-use Rattle.decoder.specs.declared.SyndromeAnswer.{SyndromeAnswer}
 use Rattle.decoder.specs.Syndrome.{bit_byte, syndrome_text, write_syndrome}
 use Rattle.syndrome_writer.specs.Characters.{characters_written}
 

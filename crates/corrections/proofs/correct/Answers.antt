@@ -1,5 +1,5 @@
 -- Nothing is needed, or one letter is enough, or the record's words give the correction.
-use Rattle.std.proofs.Common.{◌≡◌, ℕ, refl, ap, ap₂, sym, ◌∙◌, arith}
+use Rattle.std.proofs.Common.{◌≡◌, ℕ, refl, ap, ap₂, ◌∙◌, arith}
 use Rattle.letters.specs.declared.Sign.TheVariants.{Plus}
 use Rattle.pauli.specs.Letters.{row_of, row_phase}
 use Rattle.pauli.specs.Masks.{dot, count_ones, ones_among}

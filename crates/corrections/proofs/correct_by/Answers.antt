@@ -1,5 +1,5 @@
 -- What the search found, as a correction.
-use Rattle.std.proofs.Common.{ap, sym, ◌∙◌}
+use Rattle.std.proofs.Common.{ap, ◌∙◌}
 use Rattle.corrections.specs.declared.Correction.{Correction}
 use Rattle.corrections.specs.Corrections.{of_masks, correction_by}
 use Rattle.corrections.proofs.correct_by.Goals as goal

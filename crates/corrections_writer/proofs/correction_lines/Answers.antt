@@ -1,10 +1,10 @@
 -- Each turn reads a syndrome and lays the line of its correction behind those that are there.
 use mathlib.Core.List.{List}
 use mathlib.Core.Path.{◌≡◌, ap, sym, ◌∙◌}
-use Prim.Native.Nat.{ℕ, ◌+◌, ◌-◌, ◌≤◌}
+use Prim.Native.Nat.{ℕ, ◌≤◌}
 use native.Mathlib.Nat.{lt_of_le_of_lt}
 use native.Mathlib.Omega.{arith}
-use lib.ListN.{length, drop}
+use lib.ListN.{length}
 use borrow.Author.Rules.{rules}
 use Rattle.sheet.specs.Text.{laid}
 use Rattle.sheet.proofs.Laid.{lent}
@@ -15,7 +15,7 @@ use Rattle.syndrome_lines.proofs.Lines.{mask-few}
 use Rattle.correction_writer.specs.Lines.{correction_text}
 use Rattle.correction_writer.proofs.Lines.{correction-has-room}
 use Rattle.correction_lines.proofs.Lines.{line_for, line-within}
-use Rattle.corrections_writer.proofs.Answered.{Answered, answered-none, answered-off, answered-all}
+use Rattle.corrections_writer.proofs.Answered.{answered-none, answered-off, answered-all}
 use Rattle.corrections_writer.proofs.Answered.{next-room, next_fits, answered-more}
 use Rattle.corrections_writer.proofs.correction_lines.Goals as goal
 

@@ -1,14 +1,11 @@
 -- The call answers as `decode` says: 15, or 16, or 17, or as the search for the syndrome ended, as the tests go. Where
 -- nothing was found, the buffer stays; where a string was, its letters fill the first n bytes.
-use Rattle.std.proofs.Common.{◌≡◌, true, false, sym, ◌∙◌}
+use Rattle.std.proofs.Common.{◌≡◌, true, false, sym}
 use Rattle.code_record.specs.Record.{radius, within_limits}
 use Rattle.code_record.proofs.ArrayLengths.{sized_of}
 use Rattle.letters_writer.proofs.Filled.{front-filled}
 use Rattle.letter_words.specs.Words.{earliest_with}
-use Rattle.syndrome_reader.specs.declared.SyndromeRead.{SyndromeRead}
-use Rattle.syndrome_reader.specs.Mask.{read_mask}
-use Rattle.corrections.specs.declared.Correction.{Correction}
-use Rattle.corrections.specs.Corrections.{correction_of, correction_for}
+use Rattle.corrections.specs.Corrections.{correction_for}
 use Rattle.decoding.proofs.Outcomes.{outside-limits, no-syndrome, too_short, has_room}
 use Rattle.decoding.proofs.Outcomes.{ends-none, ends-letters, found-count}
 use Rattle.decoding.proofs.decode_letters.Goals as goal
