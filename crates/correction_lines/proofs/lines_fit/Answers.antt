@@ -1,20 +1,17 @@
 -- Behind each line the room that is left is known, and the lines that were passed stand before those of the rest.
-use mathlib.Core.List.{List}
-use mathlib.Core.Path.{◌≡◌, ap, sym, subst, ◌∙◌}
-use Prim.Native.Nat.{ℕ, ◌+◌, ◌-◌, ◌≤◌}
+use mathlib.Core.Path.{ap, sym, subst, ◌∙◌}
+use Prim.Native.Nat.{ℕ, ◌+◌, ◌-◌}
 use native.Mathlib.Nat.{lt_of_le_of_lt}
 use native.Mathlib.Omega.{arith}
-use lib.ListN.{length, drop}
+use lib.ListN.{length}
 use borrow.Author.Rules.{rules}
 use Rattle.sheet.proofs.Parts.{tail_of}
-use Rattle.letter_sums.specs.declared.LetterWords.{LetterWords}
-use Rattle.syndrome_reader.specs.declared.SyndromeRead.{SyndromeRead}
 use Rattle.syndrome_lines.specs.SyndromeLines.{mask_line}
 use Rattle.syndrome_lines.proofs.Lines.{mask-few}
 use Rattle.corrections.specs.declared.Correction.{Correction}
 use Rattle.correction_writer.specs.Lines.{correction_text}
 use Rattle.correction_lines.proofs.Fits.{Left, left-all, left-more, fit-off, fit_all, no-fit}
-use Rattle.correction_lines.proofs.Lines.{line_for, line-within}
+use Rattle.correction_lines.proofs.Lines.{line-within}
 use Rattle.correction_lines.proofs.lines_fit.Goals as goal
 
 -- Each answer reads the line at the place as `told`, and knows the length of its correction's line as `counted`.
