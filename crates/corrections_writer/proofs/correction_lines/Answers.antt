@@ -41,7 +41,8 @@ pub slice_bounds-write_correction-count : goal.slice_bounds-write_correction-cou
 slice_bounds-write_correction-count c =
     let a = c.args in
     let l = c.loop-place in
-    let told = sym (c.read_syndrome_line.ensures ∙ ap (mask_line a.r) (tail_of l.place a.syndromes.now)) ∙ c.in-Mask.is in
+    let told = sym (c.read_syndrome_line.ensures ∙ ap (mask_line a.r) (tail_of l.place a.syndromes.now))
+        ∙ c.in-Mask.is in
     let room = next-room a.words a.t a.r a.syndromes.now a.out.now l.invariant told c.requires.syndromes_in_bounds in
     omega (arith, room, l.invariant.held.size)
 
@@ -49,7 +50,8 @@ pub slice_bounds-write_correction-start : goal.slice_bounds-write_correction-sta
 slice_bounds-write_correction-start c =
     let a = c.args in
     let l = c.loop-place in
-    let told = sym (c.read_syndrome_line.ensures ∙ ap (mask_line a.r) (tail_of l.place a.syndromes.now)) ∙ c.in-Mask.is in
+    let told = sym (c.read_syndrome_line.ensures ∙ ap (mask_line a.r) (tail_of l.place a.syndromes.now))
+        ∙ c.in-Mask.is in
     let room = next-room a.words a.t a.r a.syndromes.now a.out.now l.invariant told c.requires.syndromes_in_bounds in
     let inside : l.end ≤ length l.out = omega (arith, room, l.invariant.held.size) in inside
 
@@ -57,7 +59,8 @@ pub overflow_add-end : goal.overflow_add-end
 overflow_add-end c =
     let a = c.args in
     let l = c.loop-place in
-    let told = sym (c.read_syndrome_line.ensures ∙ ap (mask_line a.r) (tail_of l.place a.syndromes.now)) ∙ c.in-Mask.is in
+    let told = sym (c.read_syndrome_line.ensures ∙ ap (mask_line a.r) (tail_of l.place a.syndromes.now))
+        ∙ c.in-Mask.is in
     let room = next-room a.words a.t a.r a.syndromes.now a.out.now l.invariant told c.requires.syndromes_in_bounds in
     let line-text : List ℕ = correction_text a.words.qubits c.correct_by-correction.result in
     let part : List ℕ = lent l.end l.out in
@@ -66,21 +69,24 @@ overflow_add-end c =
     let fits = next_fits a.words a.t a.r a.syndromes.now a.out.now l.invariant told c.requires.syndromes_in_bounds in
     let whole = correction-has-room a.words.qubits c.requires.le_qubits c.requires.qubits_le_most_qubits
     c.correct_by-correction.result part (omega (arith, ap length same_line, fits)) in
-    let counted = count-is line-text part whole c.write_correction.ensures.value c.count-end.ensures ∙ ap length same_line in
+    let counted = count-is line-text part whole c.write_correction.ensures.value c.count-end.ensures
+        ∙ ap length same_line in
     record { fits = omega (arith, room, counted, c.well_formed) }
 
 pub overflow_add-place : goal.overflow_add-place
 overflow_add-place c =
     let a = c.args in
     let l = c.loop-place in
-    let told = sym (c.read_syndrome_line.ensures ∙ ap (mask_line a.r) (tail_of l.place a.syndromes.now)) ∙ c.in-Mask.is in
+    let told = sym (c.read_syndrome_line.ensures ∙ ap (mask_line a.r) (tail_of l.place a.syndromes.now))
+        ∙ c.in-Mask.is in
     record { fits = omega (arith, mask-few a.r _ told) }
 
 pub overflow_add-place-in-loop-place : goal.overflow_add-place-in-loop-place
 overflow_add-place-in-loop-place c =
     let a = c.args in
     let l = c.loop-place in
-    let told = sym (c.read_syndrome_line.ensures ∙ ap (mask_line a.r) (tail_of l.place a.syndromes.now)) ∙ c.in-Mask.is in
+    let told = sym (c.read_syndrome_line.ensures ∙ ap (mask_line a.r) (tail_of l.place a.syndromes.now))
+        ∙ c.in-Mask.is in
     record {
       fits = lt_of_le_of_lt (line-within a.words a.t a.r a.syndromes.now l.invariant.passed told) (search rules);
     }
@@ -89,14 +95,16 @@ pub loop-place-smaller : goal.loop-place-smaller
 loop-place-smaller c =
     let a = c.args in
     let l = c.loop-place in
-    let told = sym (c.read_syndrome_line.ensures ∙ ap (mask_line a.r) (tail_of l.place a.syndromes.now)) ∙ c.in-Mask.is in
+    let told = sym (c.read_syndrome_line.ensures ∙ ap (mask_line a.r) (tail_of l.place a.syndromes.now))
+        ∙ c.in-Mask.is in
     omega (arith, line-within a.words a.t a.r a.syndromes.now l.invariant.passed told)
 
 pub loop-place-preserved : goal.loop-place-preserved
 loop-place-preserved c =
     let a = c.args in
     let l = c.loop-place in
-    let told = sym (c.read_syndrome_line.ensures ∙ ap (mask_line a.r) (tail_of l.place a.syndromes.now)) ∙ c.in-Mask.is in
+    let told = sym (c.read_syndrome_line.ensures ∙ ap (mask_line a.r) (tail_of l.place a.syndromes.now))
+        ∙ c.in-Mask.is in
     let line-text : List ℕ = correction_text a.words.qubits c.correct_by-correction.result in
     let part : List ℕ = lent l.end l.out in
     let same_line : line-text ≡ line_for a.words a.t a.r c.in-Mask.syndrome =
@@ -104,7 +112,8 @@ loop-place-preserved c =
     let fits = next_fits a.words a.t a.r a.syndromes.now a.out.now l.invariant told c.requires.syndromes_in_bounds in
     let whole = correction-has-room a.words.qubits c.requires.le_qubits c.requires.qubits_le_most_qubits
     c.correct_by-correction.result part (omega (arith, ap length same_line, fits)) in
-    let counted = count-is line-text part whole c.write_correction.ensures.value c.count-end.ensures ∙ ap length same_line in
+    let counted = count-is line-text part whole c.write_correction.ensures.value c.count-end.ensures
+        ∙ ap length same_line in
     answered-more a.words a.t a.r a.syndromes.now a.out.now l.invariant told c.requires.syndromes_in_bounds counted
     (content-is line-text part whole c.write_correction.ensures.out_after ∙ ap (λ (t : List ℕ). laid t part) same_line)
     c.write_correction.auto.out

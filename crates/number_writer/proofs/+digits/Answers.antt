@@ -14,7 +14,8 @@ use Rattle.number_writer.proofs.+digits.Goals as goal
 one : (m : ℕ) → m < 10 → 1 ≡ length (decimal m)
 one m h = sym (ap length (decimal-one m h))
 
-one-laid : (m : ℕ) → m < 10 → (out : List ℕ) → length (decimal m) ≤ length out → set out 0 (48 + m) ≡ laid (decimal m) out
+one-laid : (m : ℕ) → m < 10 → (out : List ℕ) → length (decimal m) ≤ length out
+    → set out 0 (48 + m) ≡ laid (decimal m) out
 one-laid m h out room =
     sets-laid _ out (omega (arith, one m h, room)) ∙ ap (λ text. laid text out) (sym (decimal-one m h))
 
@@ -45,12 +46,25 @@ digits-end-requires t c =
 
 pub bounds-out-end : goal.bounds-out-end
 bounds-out-end t c =
-    omega (arith, length-decimal-snoc c.args.m c.if-m-lt10.false, c.requires, c.digits-end.ensures.value, c.digits-end.auto.out)
+    omega (
+      arith,
+      length-decimal-snoc c.args.m c.if-m-lt10.false,
+      c.requires,
+      c.digits-end.ensures.value,
+      c.digits-end.auto.out,
+    )
 
 pub overflow_add-result : goal.overflow_add-result
 overflow_add-result t c =
     record {
-      fits = omega (arith, length-decimal-snoc c.args.m c.if-m-lt10.false, c.requires, c.digits-end.ensures.value, c.well_formed);
+      fits =
+          omega (
+            arith,
+            length-decimal-snoc c.args.m c.if-m-lt10.false,
+            c.requires,
+            c.digits-end.ensures.value,
+            c.well_formed,
+          );
     }
 
 pub returns-clause-value : goal.returns-clause-value
