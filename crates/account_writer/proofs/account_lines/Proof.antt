@@ -114,4 +114,6 @@ returns c = ((behind-all c).count, (behind-all c).content)
 
 pub account_lines_spec : {M : Type 1} → statement M
 account_lines_spec =
-    tie.close (tie.spec code-lines-requires (λ c κs. search rules) inside inside (λ c. search rules) (λ c κs. search rules) (λ c κs. search rules) add-end (λ c. (behind-all c).size) returns)
+    tie.close
+    (tie.spec code-lines-requires (λ c κs. search rules) inside inside (λ c. search rules) (λ c κs. search rules)
+    (λ c κs. search rules) add-end (λ c. (behind-all c).size) returns)

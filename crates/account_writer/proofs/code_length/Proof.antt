@@ -66,4 +66,6 @@ returns c =
 
 pub code_length_spec : {M : Type 1} → statement M
 code_length_spec =
-    tie.close (tie.spec (λ c κs. search rules) (λ c κs. search rules) (λ c κs. search rules) (λ c κs. search rules) (λ c. search rules) mul-result add-result-2 returns)
+    tie.close
+    (tie.spec (λ c κs. search rules) (λ c κs. search rules) (λ c κs. search rules) (λ c κs. search rules)
+    (λ c. search rules) mul-result add-result-2 returns)

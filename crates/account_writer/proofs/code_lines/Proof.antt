@@ -108,4 +108,7 @@ returns c = ((behind-rows c).count, (behind-rows c).content)
 
 pub code_lines_spec : {M : Type 1} → statement M
 code_lines_spec =
-    tie.close (tie.spec (λ c κs. search rules) (λ c κs. search rules) (λ c κs. search rules) (λ c κs. search rules) inside inside (λ c. search rules) (λ c κs. search rules) (λ c κs. search rules) add-end (λ c. (behind-rows c).size) returns)
+    tie.close
+    (tie.spec (λ c κs. search rules) (λ c κs. search rules) (λ c κs. search rules) (λ c κs. search rules) inside
+    inside (λ c. search rules) (λ c κs. search rules) (λ c κs. search rules) add-end (λ c. (behind-rows c).size)
+    returns)

@@ -111,4 +111,6 @@ returns-4 c =
 
 pub write_account_spec : {M : Type 1} → statement M
 write_account_spec =
-    tie.close (tie.spec returns returns-2 (λ c κs. search rules) account-fits-requires returns-3 account-lines-requires (λ c. search rules) returns-4)
+    tie.close
+    (tie.spec returns returns-2 (λ c κs. search rules) account-fits-requires returns-3 account-lines-requires
+    (λ c. search rules) returns-4)

@@ -70,4 +70,6 @@ returns-3 c =
 
 pub write_canonical_spec : {M : Type 1} → statement M
 write_canonical_spec =
-    tie.close (tie.spec (λ c κs. search rules) returns (λ c κs. search rules) (λ c. search rules) (λ c. search rules) returns-2 (λ c κs. search rules) (λ c. search rules) returns-3)
+    tie.close
+    (tie.spec (λ c κs. search rules) returns (λ c κs. search rules) (λ c. search rules) (λ c. search rules)
+    returns-2 (λ c κs. search rules) (λ c. search rules) returns-3)

@@ -77,4 +77,6 @@ returns-4 c = by_rows c.before false c.if-contains.false
 
 pub check_claim_spec : {M : Type 1} → statement M
 check_claim_spec =
-    tie.close (tie.spec (λ c κs. search rules) (λ c. search rules) returns (λ c κs. search rules) returns-2 (λ c κs. search rules) returns-3 returns-4)
+    tie.close
+    (tie.spec (λ c κs. search rules) (λ c. search rules) returns (λ c κs. search rules) returns-2
+    (λ c κs. search rules) returns-3 returns-4)

@@ -67,4 +67,7 @@ returns-3 c =
 
 pub claim_after_spec : {M : Type 1} → statement M
 claim_after_spec =
-    tie.close (tie.spec (λ c κs. search rules) returns (λ c. search rules) (λ c. search rules) (λ c. search rules) (λ c κs. search rules) (λ c. search rules) (λ c. search rules) (λ c κs. search rules) returns-2 add-t13 returns-3)
+    tie.close
+    (tie.spec (λ c κs. search rules) returns (λ c. search rules) (λ c. search rules) (λ c. search rules)
+    (λ c κs. search rules) (λ c. search rules) (λ c. search rules) (λ c κs. search rules) returns-2 add-t13
+    returns-3)

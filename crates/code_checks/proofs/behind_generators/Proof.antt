@@ -28,4 +28,6 @@ returns-2 c =
 
 pub behind_generators_spec : {M : Type 1} → statement M
 behind_generators_spec =
-    tie.close (tie.spec (λ c κs. search rules) (λ c. search rules) (λ c. search rules) returns (λ c κs. search rules) returns-2)
+    tie.close
+    (tie.spec (λ c κs. search rules) (λ c. search rules) (λ c. search rules) returns (λ c κs. search rules)
+    returns-2)

@@ -18,4 +18,6 @@ returns-2 c =
 
 pub check_read_spec : {M : Type 1} → statement M
 check_read_spec =
-    tie.close (tie.spec (λ c κs. search rules) (λ c. search rules) (λ c. search rules) returns (λ c κs. search rules) returns-2)
+    tie.close
+    (tie.spec (λ c κs. search rules) (λ c. search rules) (λ c. search rules) returns (λ c κs. search rules)
+    returns-2)

@@ -22,4 +22,6 @@ returns-2 c =
 
 pub claim_and_distance_spec : {M : Type 1} → statement M
 claim_and_distance_spec =
-    tie.close (tie.spec (λ c κs. search rules) (λ c. search rules) (λ c. search rules) returns (λ c κs. search rules) returns-2)
+    tie.close
+    (tie.spec (λ c κs. search rules) (λ c. search rules) (λ c. search rules) returns (λ c κs. search rules)
+    returns-2)

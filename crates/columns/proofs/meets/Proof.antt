@@ -43,4 +43,6 @@ returns-3 c =
 
 pub meets_spec : {M : Type 1} → statement M
 meets_spec =
-    tie.close (tie.spec (λ c κs. search rules) (λ c κs. search rules) (λ c κs. search rules) returns (λ c κs. search rules) (λ c κs. search rules) (λ c κs. search rules) returns-2 returns-3)
+    tie.close
+    (tie.spec (λ c κs. search rules) (λ c κs. search rules) (λ c κs. search rules) returns (λ c κs. search rules)
+    (λ c κs. search rules) (λ c κs. search rules) returns-2 returns-3)

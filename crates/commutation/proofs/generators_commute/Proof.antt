@@ -124,4 +124,8 @@ returns-3 c = ended c.before (inr (omega (arith, room c.before.before)))
 
 pub generators_commute_spec : {M : Type 1} → statement M
 generators_commute_spec =
-    tie.close (tie.spec invariant-loop2 decreases-loop2 invariant-loop decreases-loop loop-holds (λ c. search rules) (λ c. search rules) loop2-holds (λ c. search rules) (λ c. search rules) (λ c κs. search rules) (λ c. record { fits = omega (arith, (turn c.before).loop-earlier.invariant.few) }) returns (λ c. search rules) (λ c. search rules) loop2-again (λ c. search rules) (λ c. search rules) loop-again returns-2 returns-3)
+    tie.close
+    (tie.spec invariant-loop2 decreases-loop2 invariant-loop decreases-loop loop-holds (λ c. search rules)
+    (λ c. search rules) loop2-holds (λ c. search rules) (λ c. search rules) (λ c κs. search rules)
+    (λ c. record { fits = omega (arith, (turn c.before).loop-earlier.invariant.few) }) returns (λ c. search rules)
+    (λ c. search rules) loop2-again (λ c. search rules) (λ c. search rules) loop-again returns-2 returns-3)

@@ -42,7 +42,7 @@ slice_bounds-write_correction-count c =
     let a = c.args in
     let l = c.loop-place in
     let told = sym (c.read_syndrome_line.ensures ∙ ap (mask_line a.r) (tail_of l.place a.syndromes.now))
-        ∙ c.in-Mask.is in
+    ∙ c.in-Mask.is in
     let room = next-room a.words a.t a.r a.syndromes.now a.out.now l.invariant told c.requires.syndromes_in_bounds in
     omega (arith, room, l.invariant.held.size)
 
@@ -51,7 +51,7 @@ slice_bounds-write_correction-start c =
     let a = c.args in
     let l = c.loop-place in
     let told = sym (c.read_syndrome_line.ensures ∙ ap (mask_line a.r) (tail_of l.place a.syndromes.now))
-        ∙ c.in-Mask.is in
+    ∙ c.in-Mask.is in
     let room = next-room a.words a.t a.r a.syndromes.now a.out.now l.invariant told c.requires.syndromes_in_bounds in
     let inside : l.end ≤ length l.out = omega (arith, room, l.invariant.held.size) in inside
 
@@ -60,7 +60,7 @@ overflow_add-end c =
     let a = c.args in
     let l = c.loop-place in
     let told = sym (c.read_syndrome_line.ensures ∙ ap (mask_line a.r) (tail_of l.place a.syndromes.now))
-        ∙ c.in-Mask.is in
+    ∙ c.in-Mask.is in
     let room = next-room a.words a.t a.r a.syndromes.now a.out.now l.invariant told c.requires.syndromes_in_bounds in
     let line-text : List ℕ = correction_text a.words.qubits c.correct_by-correction.result in
     let part : List ℕ = lent l.end l.out in
@@ -70,7 +70,7 @@ overflow_add-end c =
     let whole = correction-has-room a.words.qubits c.requires.le_qubits c.requires.qubits_le_most_qubits
     c.correct_by-correction.result part (omega (arith, ap length same_line, fits)) in
     let counted = count-is line-text part whole c.write_correction.ensures.value c.count-end.ensures
-        ∙ ap length same_line in
+    ∙ ap length same_line in
     record { fits = omega (arith, room, counted, c.well_formed) }
 
 pub overflow_add-place : goal.overflow_add-place
@@ -78,7 +78,7 @@ overflow_add-place c =
     let a = c.args in
     let l = c.loop-place in
     let told = sym (c.read_syndrome_line.ensures ∙ ap (mask_line a.r) (tail_of l.place a.syndromes.now))
-        ∙ c.in-Mask.is in
+    ∙ c.in-Mask.is in
     record { fits = omega (arith, mask-few a.r _ told) }
 
 pub overflow_add-place-in-loop-place : goal.overflow_add-place-in-loop-place
@@ -86,7 +86,7 @@ overflow_add-place-in-loop-place c =
     let a = c.args in
     let l = c.loop-place in
     let told = sym (c.read_syndrome_line.ensures ∙ ap (mask_line a.r) (tail_of l.place a.syndromes.now))
-        ∙ c.in-Mask.is in
+    ∙ c.in-Mask.is in
     record {
       fits = lt_of_le_of_lt (line-within a.words a.t a.r a.syndromes.now l.invariant.passed told) (search rules);
     }
@@ -96,7 +96,7 @@ loop-place-smaller c =
     let a = c.args in
     let l = c.loop-place in
     let told = sym (c.read_syndrome_line.ensures ∙ ap (mask_line a.r) (tail_of l.place a.syndromes.now))
-        ∙ c.in-Mask.is in
+    ∙ c.in-Mask.is in
     omega (arith, line-within a.words a.t a.r a.syndromes.now l.invariant.passed told)
 
 pub loop-place-preserved : goal.loop-place-preserved
@@ -104,7 +104,7 @@ loop-place-preserved c =
     let a = c.args in
     let l = c.loop-place in
     let told = sym (c.read_syndrome_line.ensures ∙ ap (mask_line a.r) (tail_of l.place a.syndromes.now))
-        ∙ c.in-Mask.is in
+    ∙ c.in-Mask.is in
     let line-text : List ℕ = correction_text a.words.qubits c.correct_by-correction.result in
     let part : List ℕ = lent l.end l.out in
     let same_line : line-text ≡ line_for a.words a.t a.r c.in-Mask.syndrome =
@@ -113,7 +113,7 @@ loop-place-preserved c =
     let whole = correction-has-room a.words.qubits c.requires.le_qubits c.requires.qubits_le_most_qubits
     c.correct_by-correction.result part (omega (arith, ap length same_line, fits)) in
     let counted = count-is line-text part whole c.write_correction.ensures.value c.count-end.ensures
-        ∙ ap length same_line in
+    ∙ ap length same_line in
     answered-more a.words a.t a.r a.syndromes.now a.out.now l.invariant told c.requires.syndromes_in_bounds counted
     (content-is line-text part whole c.write_correction.ensures.out_after ∙ ap (λ (t : List ℕ). laid t part) same_line)
     c.write_correction.auto.out

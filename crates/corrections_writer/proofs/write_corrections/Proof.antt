@@ -75,4 +75,6 @@ returns-4 c =
 
 pub write_corrections_spec : {M : Type 1} → statement M
 write_corrections_spec =
-    tie.close (tie.spec returns returns-2 (λ c κs. search rules) returns-3 correction-lines-requires (λ c. search rules) returns-4)
+    tie.close
+    (tie.spec returns returns-2 (λ c κs. search rules) returns-3 correction-lines-requires (λ c. search rules)
+    returns-4)

@@ -141,4 +141,7 @@ returns-3 c =
 
 pub dependence_of_spec : {M : Type 1} → statement M
 dependence_of_spec =
-    tie.close (tie.spec returns (λ c. record { fits = omega (arith, small c) }) (λ c. record { fits = omega (arith, small c) }) (λ c. (small c).1) (λ c κs. search rules) (λ c κs. search rules) (λ c. search rules) returns-2 returns-3)
+    tie.close
+    (tie.spec returns (λ c. record { fits = omega (arith, small c) })
+    (λ c. record { fits = omega (arith, small c) }) (λ c. (small c).1) (λ c κs. search rules) (λ c κs. search rules)
+    (λ c. search rules) returns-2 returns-3)

@@ -44,4 +44,6 @@ returns-3 c =
 
 pub eliminate_rows_spec : {M : Type 1} → statement M
 eliminate_rows_spec =
-    tie.close (tie.spec (λ c κs. search rules) (λ c κs. search rules) returns (λ c κs. search rules) (λ c. search rules) (λ c. search rules) (λ c κs. search rules) returns-2 independence-requires returns-3)
+    tie.close
+    (tie.spec (λ c κs. search rules) (λ c κs. search rules) returns (λ c κs. search rules) (λ c. search rules)
+    (λ c. search rules) (λ c κs. search rules) returns-2 independence-requires returns-3)

@@ -55,4 +55,6 @@ returns-2 c =
 
 pub independence_spec : {M : Type 1} → statement M
 independence_spec =
-    tie.close (tie.spec cast-independent-rows (λ c κs. search rules) dependence-of-requires (λ c. search rules) (λ c κs. search rules) (λ c. search rules) returns returns-2)
+    tie.close
+    (tie.spec cast-independent-rows (λ c κs. search rules) dependence-of-requires (λ c. search rules)
+    (λ c κs. search rules) (λ c. search rules) returns returns-2)

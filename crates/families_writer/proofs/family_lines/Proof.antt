@@ -141,4 +141,7 @@ returns c = ((behind_z c).count, (behind_z c).content)
 
 pub family_lines_spec : {M : Type 1} → statement M
 family_lines_spec =
-    tie.close (tie.spec (λ c κs. search rules) (λ c κs. search rules) (λ c κs. search rules) inside_g inside_g (λ c. search rules) (λ c κs. search rules) (λ c κs. search rules) add-end inside_x inside_x (λ c. search rules) (λ c κs. search rules) (λ c κs. search rules) add-end-2 (λ c. (behind_z c).size) returns)
+    tie.close
+    (tie.spec (λ c κs. search rules) (λ c κs. search rules) (λ c κs. search rules) inside_g inside_g
+    (λ c. search rules) (λ c κs. search rules) (λ c κs. search rules) add-end inside_x inside_x (λ c. search rules)
+    (λ c κs. search rules) (λ c κs. search rules) add-end-2 (λ c. (behind_z c).size) returns)

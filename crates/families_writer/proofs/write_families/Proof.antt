@@ -95,4 +95,7 @@ returns-4 c =
 
 pub write_families_spec : {M : Type 1} → statement M
 write_families_spec =
-    tie.close (tie.spec returns returns-2 (λ c κs. search rules) (λ c. search rules) (λ c. record { fits = omega (arith, size_small c) }) returns-3 family-lines-requires (λ c. search rules) returns-4)
+    tie.close
+    (tie.spec returns returns-2 (λ c κs. search rules) (λ c. search rules)
+    (λ c. record { fits = omega (arith, size_small c) }) returns-3 family-lines-requires (λ c. search rules)
+    returns-4)

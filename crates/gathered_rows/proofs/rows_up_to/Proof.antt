@@ -113,4 +113,8 @@ returns-3 c = ended c.before (omega arith)
 
 pub rows_up_to_spec : {M : Type 1} → statement M
 rows_up_to_spec =
-    tie.close (tie.spec invariant-loop decreases-loop (λ c κs. search rules) loop-holds (λ c. search rules) (λ c. search rules) (λ c. search rules) (λ c κs. search rules) (λ c. search rules) (λ c. search rules) returns (λ c. search rules) (λ c. search rules) (λ c. search rules) add-end (λ c. search rules) loop-again returns-2 returns-3)
+    tie.close
+    (tie.spec invariant-loop decreases-loop (λ c κs. search rules) loop-holds (λ c. search rules)
+    (λ c. search rules) (λ c. search rules) (λ c κs. search rules) (λ c. search rules) (λ c. search rules) returns
+    (λ c. search rules) (λ c. search rules) (λ c. search rules) add-end (λ c. search rules) loop-again returns-2
+    returns-3)

@@ -43,4 +43,8 @@ returns c =
 
 pub header_length_spec : {M : Type 1} → statement M
 header_length_spec =
-    tie.close (tie.spec (λ c κs. search rules) (λ c κs. search rules) (λ c. record { fits = omega (arith, two c) }) (λ c κs. search rules) (λ c. record { fits = omega (arith, two c.before, third c) }) (λ c κs. search rules) (λ c. record { fits = omega (arith, two c.before.before, third c.before, fourth c) }) (λ c. record { fits = omega (arith, two c.before.before, third c.before, fourth c) }) returns)
+    tie.close
+    (tie.spec (λ c κs. search rules) (λ c κs. search rules) (λ c. record { fits = omega (arith, two c) })
+    (λ c κs. search rules) (λ c. record { fits = omega (arith, two c.before, third c) }) (λ c κs. search rules)
+    (λ c. record { fits = omega (arith, two c.before.before, third c.before, fourth c) })
+    (λ c. record { fits = omega (arith, two c.before.before, third c.before, fourth c) }) returns)

@@ -94,4 +94,7 @@ returns c = ((behind-t c).count, (behind-t c).content)
 
 pub header_lines_spec : {M : Type 1} → statement M
 header_lines_spec =
-    tie.close (tie.spec (λ c κs. search rules) (λ c κs. search rules) (λ c. inside c.before.before.before.before) (λ c. inside c.before.before.before.before) (λ c. search rules) (λ c κs. search rules) (λ c κs. search rules) add-end (λ c. (behind-t c).size) returns)
+    tie.close
+    (tie.spec (λ c κs. search rules) (λ c κs. search rules) (λ c. inside c.before.before.before.before)
+    (λ c. inside c.before.before.before.before) (λ c. search rules) (λ c κs. search rules) (λ c κs. search rules)
+    add-end (λ c. (behind-t c).size) returns)

@@ -145,4 +145,13 @@ returns-3 c = added-end _ _ _ c.loop-place.invariant (inr (omega (arith, room c.
 
 pub independent_rows_spec : {M : Type 1} → statement M
 independent_rows_spec =
-    tie.close (tie.spec invariant-loop2 decreases-loop2 invariant-loop3 decreases-loop3 invariant-loop4 decreases-loop4 invariant-loop decreases-loop (λ c κs. search rules) loop-holds (λ c. search rules) (λ c. search rules) loop2-holds (λ c. search rules) (λ c. search rules) (λ c κs. search rules) (λ c. search rules) (λ c. search rules) loop2-again (λ c κs. search rules) returns (λ c κs. search rules) loop3-holds (λ c. search rules) (λ c. search rules) (λ c κs. search rules) (λ c. search rules) (λ c. search rules) (λ c. search rules) (λ c. search rules) loop3-again (λ c κs. search rules) loop4-holds (λ c. search rules) (λ c. search rules) (λ c. search rules) (λ c κs. search rules) (λ c. search rules) (λ c. search rules) (λ c. search rules) (λ c. search rules) loop4-again (λ c. search rules) (λ c. search rules) (λ c. search rules) (λ c. search rules) loop-again returns-2 returns-3)
+    tie.close
+    (tie.spec invariant-loop2 decreases-loop2 invariant-loop3 decreases-loop3 invariant-loop4 decreases-loop4
+    invariant-loop decreases-loop (λ c κs. search rules) loop-holds (λ c. search rules) (λ c. search rules)
+    loop2-holds (λ c. search rules) (λ c. search rules) (λ c κs. search rules) (λ c. search rules)
+    (λ c. search rules) loop2-again (λ c κs. search rules) returns (λ c κs. search rules) loop3-holds
+    (λ c. search rules) (λ c. search rules) (λ c κs. search rules) (λ c. search rules) (λ c. search rules)
+    (λ c. search rules) (λ c. search rules) loop3-again (λ c κs. search rules) loop4-holds (λ c. search rules)
+    (λ c. search rules) (λ c. search rules) (λ c κs. search rules) (λ c. search rules) (λ c. search rules)
+    (λ c. search rules) (λ c. search rules) loop4-again (λ c. search rules) (λ c. search rules) (λ c. search rules)
+    (λ c. search rules) loop-again returns-2 returns-3)

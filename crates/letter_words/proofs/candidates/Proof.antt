@@ -35,4 +35,7 @@ returns c = all-passed c.loop-place.invariant (omega (arith, c.loop-place-test.f
 
 pub candidates_spec : {M : Type 1} → statement M
 candidates_spec =
-    tie.close (tie.spec invariant-loop decreases-loop (λ c κs. search rules) (λ c. search rules) (λ c κs. search rules) loop-holds (λ c. search rules) (λ c. search rules) (λ c. search rules) (λ c. search rules) (λ c. search rules) (λ c. search rules) (λ c κs. search rules) (λ c. search rules) loop-again returns)
+    tie.close
+    (tie.spec invariant-loop decreases-loop (λ c κs. search rules) (λ c. search rules) (λ c κs. search rules)
+    loop-holds (λ c. search rules) (λ c. search rules) (λ c. search rules) (λ c. search rules) (λ c. search rules)
+    (λ c. search rules) (λ c κs. search rules) (λ c. search rules) loop-again returns)

@@ -137,4 +137,8 @@ returns-4 c =
 
 pub lone_letter_spec : {M : Type 1} → statement M
 lone_letter_spec =
-    tie.close (tie.spec invariant-loop decreases-loop invariant-search decreases-search (λ c κs. search rules) (λ c κs. search rules) search-holds loop-holds (λ c. search rules) (λ c. search rules) (λ c. search rules) (λ c. search rules) (λ c. search rules) (λ c. search rules) (λ c. search rules) (λ c. search rules) (λ c. search rules) (λ c. search rules) loop-again returns returns-2 returns-3 returns-4)
+    tie.close
+    (tie.spec invariant-loop decreases-loop invariant-search decreases-search (λ c κs. search rules)
+    (λ c κs. search rules) search-holds loop-holds (λ c. search rules) (λ c. search rules) (λ c. search rules)
+    (λ c. search rules) (λ c. search rules) (λ c. search rules) (λ c. search rules) (λ c. search rules)
+    (λ c. search rules) (λ c. search rules) loop-again returns returns-2 returns-3 returns-4)

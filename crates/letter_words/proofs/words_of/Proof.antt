@@ -109,4 +109,12 @@ returns c =
 
 pub words_of_spec : {M : Type 1} → statement M
 words_of_spec =
-    tie.close (tie.spec invariant-loop2 decreases-loop2 invariant-loop decreases-loop (λ c κs. search rules) (λ c κs. search rules) loop-holds (λ c. search rules) loop2-holds (λ c. search rules) (λ c. search rules) (λ c. search rules) (λ c. record { fits = omega (arith, small c.before) }) (λ c κs. search rules) (λ c. record { fits = omega (arith, small c.before.before, c.bits_at.ensures) }) (λ c. search rules) loop2-again (λ c. record { fits = omega (arith, x_fits c.loop-place.invariant (room (start c.before)) (all-passed c)) }) (λ c. search rules) (λ c. search rules) (λ c. search rules) (λ c. search rules) (λ c. search rules) (λ c. search rules) (λ c. search rules) (λ c. search rules) (λ c. search rules) (λ c. search rules) (λ c. search rules) loop-again returns)
+    tie.close
+    (tie.spec invariant-loop2 decreases-loop2 invariant-loop decreases-loop (λ c κs. search rules)
+    (λ c κs. search rules) loop-holds (λ c. search rules) loop2-holds (λ c. search rules) (λ c. search rules)
+    (λ c. search rules) (λ c. record { fits = omega (arith, small c.before) }) (λ c κs. search rules)
+    (λ c. record { fits = omega (arith, small c.before.before, c.bits_at.ensures) }) (λ c. search rules) loop2-again
+    (λ c. record { fits = omega (arith, x_fits c.loop-place.invariant (room (start c.before)) (all-passed c)) })
+    (λ c. search rules) (λ c. search rules) (λ c. search rules) (λ c. search rules) (λ c. search rules)
+    (λ c. search rules) (λ c. search rules) (λ c. search rules) (λ c. search rules) (λ c. search rules)
+    (λ c. search rules) loop-again returns)

@@ -40,4 +40,7 @@ returns c =
 
 pub fill_letters_spec : {M : Type 1} → statement M
 fill_letters_spec =
-    tie.close (tie.spec invariant-loop decreases-loop (λ c. (omega arith, filled-nothing _ _)) (λ c κs. search rules) (λ c κs. search rules) (λ c. search rules) (λ c. search rules) (λ c. omega (arith, size c.before.before.before)) loop-again (λ c. size c.before) returns)
+    tie.close
+    (tie.spec invariant-loop decreases-loop (λ c. (omega arith, filled-nothing _ _)) (λ c κs. search rules)
+    (λ c κs. search rules) (λ c. search rules) (λ c. search rules) (λ c. omega (arith, size c.before.before.before))
+    loop-again (λ c. size c.before) returns)

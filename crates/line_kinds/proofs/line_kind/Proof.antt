@@ -83,4 +83,6 @@ returns-10 c =
 
 pub line_kind_spec : {M : Type 1} → statement M
 line_kind_spec =
-    tie.close (tie.spec returns (λ c. search rules) returns-2 (λ c. search rules) returns-3 returns-4 returns-5 returns-6 returns-7 returns-8 returns-9 returns-10)
+    tie.close
+    (tie.spec returns (λ c. search rules) returns-2 (λ c. search rules) returns-3 returns-4 returns-5 returns-6
+    returns-7 returns-8 returns-9 returns-10)

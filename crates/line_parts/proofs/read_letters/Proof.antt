@@ -111,4 +111,7 @@ returns-3 c =
 
 pub read_letters_spec : {M : Type 1} → statement M
 read_letters_spec =
-    tie.close (tie.spec invariant-loop decreases-loop returns loop-holds (λ c. search rules) (λ c. search rules) (λ c κs. search rules) returns-2 (λ c κs. search rules) mul-a add_a (λ c κs. search rules) mul-b add-b (λ c. search rules) loop-again (λ c κs. search rules) returns-3)
+    tie.close
+    (tie.spec invariant-loop decreases-loop returns loop-holds (λ c. search rules) (λ c. search rules)
+    (λ c κs. search rules) returns-2 (λ c κs. search rules) mul-a add_a (λ c κs. search rules) mul-b add-b
+    (λ c. search rules) loop-again (λ c κs. search rules) returns-3)

@@ -92,4 +92,7 @@ returns-7 c =
 
 pub read_number_spec : {M : Type 1} → statement M
 read_number_spec =
-    tie.close (tie.spec returns returns-2 (λ c. search rules) (λ c κs. search rules) (λ c. search rules) (λ c. search rules) returns-3 returns-4 returns-5 (λ c. search rules) (λ c κs. search rules) (λ c. search rules) (λ c. search rules) returns-6 mul-t4 add-t11 returns-7)
+    tie.close
+    (tie.spec returns returns-2 (λ c. search rules) (λ c κs. search rules) (λ c. search rules) (λ c. search rules)
+    returns-3 returns-4 returns-5 (λ c. search rules) (λ c κs. search rules) (λ c. search rules) (λ c. search rules)
+    returns-6 mul-t4 add-t11 returns-7)

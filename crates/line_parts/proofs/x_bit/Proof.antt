@@ -16,4 +16,6 @@ returns-2 c = ap (bit_of x_bit) (sym (ap letter_in c.in-NotALetter.is) ∙ c.rea
 
 pub x_bit_spec : {M : Type 1} → statement M
 x_bit_spec =
-    tie.close (tie.spec (λ c κs. search rules) (λ c. search rules) (λ c κs. search rules) (λ c. search rules) returns returns-2)
+    tie.close
+    (tie.spec (λ c κs. search rules) (λ c. search rules) (λ c κs. search rules) (λ c. search rules) returns
+    returns-2)

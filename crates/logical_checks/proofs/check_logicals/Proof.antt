@@ -127,4 +127,11 @@ ten-line c = early c.before.before.before.before c.generators_at-then-unpaired-p
 
 pub check_logicals_spec : {M : Type 1} → statement M
 check_logicals_spec =
-    tie.close (tie.spec returns returns-2 (λ c κs. search rules) (λ c κs. search rules) (λ c. let few = (counted c).few in search rules) (λ c κs. search rules) (λ c. record { fits = omega (arith, nine-line c.before) }) (λ c. record { fits = omega (arith, nine-line c.before) }) (λ c κs. search rules) returns-3 (λ c κs. search rules) (λ c. search rules) (λ c κs. search rules) (λ c. record { fits = omega (arith, ten-line c.before) }) (λ c. record { fits = omega (arith, ten-line c.before) }) (λ c κs. search rules) returns-4 returns-5)
+    tie.close
+    (tie.spec returns returns-2 (λ c κs. search rules) (λ c κs. search rules)
+    (λ c. let few = (counted c).few in search rules) (λ c κs. search rules)
+    (λ c. record { fits = omega (arith, nine-line c.before) })
+    (λ c. record { fits = omega (arith, nine-line c.before) }) (λ c κs. search rules) returns-3
+    (λ c κs. search rules) (λ c. search rules) (λ c κs. search rules)
+    (λ c. record { fits = omega (arith, ten-line c.before) })
+    (λ c. record { fits = omega (arith, ten-line c.before) }) (λ c κs. search rules) returns-4 returns-5)

@@ -110,4 +110,8 @@ returns-2 c =
 
 pub first_detected_spec : {M : Type 1} → statement M
 first_detected_spec =
-    tie.close (tie.spec invariant-loop2 decreases-loop2 invariant-loop decreases-loop (λ c κs. search rules) loop-holds (λ c. search rules) (λ c. search rules) (λ c. search rules) (λ c. search rules) (λ c. search rules) loop2-holds (λ c. search rules) (λ c. search rules) (λ c κs. search rules) returns (λ c. search rules) (λ c. search rules) loop2-again (λ c. search rules) (λ c. search rules) loop-again returns-2)
+    tie.close
+    (tie.spec invariant-loop2 decreases-loop2 invariant-loop decreases-loop (λ c κs. search rules) loop-holds
+    (λ c. search rules) (λ c. search rules) (λ c. search rules) (λ c. search rules) (λ c. search rules) loop2-holds
+    (λ c. search rules) (λ c. search rules) (λ c κs. search rules) returns (λ c. search rules) (λ c. search rules)
+    loop2-again (λ c. search rules) (λ c. search rules) loop-again returns-2)

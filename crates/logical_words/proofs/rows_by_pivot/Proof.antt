@@ -49,4 +49,8 @@ returns c =
 
 pub rows_by_pivot_spec : {M : Type 1} → statement M
 rows_by_pivot_spec =
-    tie.close (tie.spec invariant-loop decreases-loop (λ c κs. search rules) loop-holds (λ c. search rules) (λ c. search rules) (λ c κs. search rules) (λ c. search (rules, column-room c)) (λ c. search (rules, column-room c)) (λ c κs. search rules) (λ c. search (rules, column-room c.before)) (λ c. search (rules, column-room c.before)) (λ c. search rules) (λ c. search rules) loop-again returns)
+    tie.close
+    (tie.spec invariant-loop decreases-loop (λ c κs. search rules) loop-holds (λ c. search rules)
+    (λ c. search rules) (λ c κs. search rules) (λ c. search (rules, column-room c))
+    (λ c. search (rules, column-room c)) (λ c κs. search rules) (λ c. search (rules, column-room c.before))
+    (λ c. search (rules, column-room c.before)) (λ c. search rules) (λ c. search rules) loop-again returns)

@@ -60,4 +60,6 @@ returns-4 c =
 
 pub decode_mask_spec : {M : Type 1} → statement M
 decode_mask_spec =
-    tie.close (tie.spec (λ c κs. search rules) returns cast-if2 shr-if2 returns-2 (λ c κs. search rules) (λ c. search rules) (λ c. search rules) returns-3 returns-4)
+    tie.close
+    (tie.spec (λ c κs. search rules) returns cast-if2 shr-if2 returns-2 (λ c κs. search rules) (λ c. search rules)
+    (λ c. search rules) returns-3 returns-4)

@@ -40,4 +40,6 @@ returns-2 c =
 
 pub line_number_spec : {M : Type 1} → statement M
 line_number_spec =
-    tie.close (tie.spec (λ c. search rules) (λ c κs. search rules) returns (λ c. search rules) (λ c. search rules) (λ c. search rules) part-read-number-end (λ c κs. search rules) returns-2)
+    tie.close
+    (tie.spec (λ c. search rules) (λ c κs. search rules) returns (λ c. search rules) (λ c. search rules)
+    (λ c. search rules) part-read-number-end (λ c κs. search rules) returns-2)

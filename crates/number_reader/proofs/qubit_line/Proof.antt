@@ -38,4 +38,6 @@ returns-2 c =
 
 pub qubit_line_spec : {M : Type 1} → statement M
 qubit_line_spec =
-    tie.close (tie.spec (λ c κs. search rules) (λ c. search rules) (λ c κs. search rules) returns (λ c κs. search rules) number-line-requires returns-2)
+    tie.close
+    (tie.spec (λ c κs. search rules) (λ c. search rules) (λ c κs. search rules) returns (λ c κs. search rules)
+    number-line-requires returns-2)

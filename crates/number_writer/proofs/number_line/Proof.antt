@@ -100,4 +100,6 @@ returns c =
 
 pub number_line_spec : {M : Type 1} → statement M
 number_line_spec =
-    tie.close (tie.spec (λ c κs. search rules) (λ c κs. search rules) sub-digits part-digits-start (λ c. search rules) digits-requires add-end slice-write-out add-result same_length returns)
+    tie.close
+    (tie.spec (λ c κs. search rules) (λ c κs. search rules) sub-digits part-digits-start (λ c. search rules)
+    digits-requires add-end slice-write-out add-result same_length returns)

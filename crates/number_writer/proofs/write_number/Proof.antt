@@ -56,4 +56,6 @@ returns-3 c =
 
 pub write_number_spec : {M : Type 1} → statement M
 write_number_spec =
-    tie.close (tie.spec returns (λ c. search rules) (λ c κs. search rules) add-if2 returns-2 number-line-requires (λ c. search rules) returns-3)
+    tie.close
+    (tie.spec returns (λ c. search rules) (λ c κs. search rules) add-if2 returns-2 number-line-requires
+    (λ c. search rules) returns-3)

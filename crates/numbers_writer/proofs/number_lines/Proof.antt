@@ -92,4 +92,6 @@ returns c = ((behind-second c).count, (behind-second c).content)
 
 pub number_lines_spec : {M : Type 1} → statement M
 number_lines_spec =
-    tie.close (tie.spec (λ c κs. search rules) (λ c κs. search rules) inside inside (λ c. search rules) (λ c κs. search rules) (λ c κs. search rules) add-end (λ c. (behind-second c).size) returns)
+    tie.close
+    (tie.spec (λ c κs. search rules) (λ c κs. search rules) inside inside (λ c. search rules) (λ c κs. search rules)
+    (λ c κs. search rules) add-end (λ c. (behind-second c).size) returns)

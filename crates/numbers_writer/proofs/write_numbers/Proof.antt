@@ -64,4 +64,6 @@ returns-2 c =
 
 pub write_numbers_spec : {M : Type 1} → statement M
 write_numbers_spec =
-    tie.close (tie.spec (λ c κs. search rules) (λ c. search rules) (λ c κs. search rules) returns number-lines-requires (λ c. search rules) returns-2)
+    tie.close
+    (tie.spec (λ c κs. search rules) (λ c. search rules) (λ c κs. search rules) returns number-lines-requires
+    (λ c. search rules) returns-2)

@@ -119,4 +119,7 @@ returns-2 c =
 
 pub lines_after_spec : {M : Type 1} → statement M
 lines_after_spec =
-    tie.close (tie.spec (λ c. search rules) (λ c. search rules) (λ c. search rules) (λ c κs. search rules) (λ c κs. search rules) (λ c. search rules) (λ c. search rules) (λ c κs. search rules) returns (λ c κs. search rules) mul-claim-at add-claim-at add-claim-after (λ c κs. search rules) returns-2)
+    tie.close
+    (tie.spec (λ c. search rules) (λ c. search rules) (λ c. search rules) (λ c κs. search rules)
+    (λ c κs. search rules) (λ c. search rules) (λ c. search rules) (λ c κs. search rules) returns
+    (λ c κs. search rules) mul-claim-at add-claim-at add-claim-after (λ c κs. search rules) returns-2)

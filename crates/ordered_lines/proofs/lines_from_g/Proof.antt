@@ -142,4 +142,7 @@ returns-4 c =
 
 pub lines_from_g_spec : {M : Type 1} → statement M
 lines_from_g_spec =
-    tie.close (tie.spec (λ c κs. search rules) returns (λ c κs. search rules) returns-2 (λ c. search rules) (λ c. search rules) (λ c. search rules) (λ c κs. search rules) (λ c κs. search rules) (λ c. search rules) (λ c. search rules) (λ c κs. search rules) returns-3 add_at add-lines-after lines-after-requires returns-4)
+    tie.close
+    (tie.spec (λ c κs. search rules) returns (λ c κs. search rules) returns-2 (λ c. search rules)
+    (λ c. search rules) (λ c. search rules) (λ c κs. search rules) (λ c κs. search rules) (λ c. search rules)
+    (λ c. search rules) (λ c κs. search rules) returns-3 add_at add-lines-after lines-after-requires returns-4)

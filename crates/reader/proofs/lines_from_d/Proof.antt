@@ -61,4 +61,6 @@ returns-2 c =
 
 pub lines_from_d_spec : {M : Type 1} → statement M
 lines_from_d_spec =
-    tie.close (tie.spec (λ c. search rules) (λ c. search rules) (λ c. search rules) (λ c κs. search rules) (λ c. search rules) (λ c. search rules) (λ c κs. search rules) returns add-lines-from-g (λ c κs. search rules) returns-2)
+    tie.close
+    (tie.spec (λ c. search rules) (λ c. search rules) (λ c. search rules) (λ c κs. search rules) (λ c. search rules)
+    (λ c. search rules) (λ c κs. search rules) returns add-lines-from-g (λ c κs. search rules) returns-2)

@@ -51,4 +51,6 @@ returns-2 c =
 
 pub sheet_lines_spec : {M : Type 1} → statement M
 sheet_lines_spec =
-    tie.close (tie.spec (λ c κs. search rules) (λ c. search rules) (λ c. search rules) (λ c κs. search rules) returns lines-from-d-requires returns-2)
+    tie.close
+    (tie.spec (λ c κs. search rules) (λ c. search rules) (λ c. search rules) (λ c κs. search rules) returns
+    lines-from-d-requires returns-2)

@@ -99,4 +99,7 @@ returns-3 c =
 
 pub generators_within_spec : {M : Type 1} → statement M
 generators_within_spec =
-    tie.close (tie.spec invariant-loop decreases-loop (λ c κs. search rules) returns loop-holds (λ c. search rules) (λ c. search rules) (λ c κs. (sizes c.before.before.before).0) returns-2 (λ c. search rules) (λ c. search rules) loop-again returns-3)
+    tie.close
+    (tie.spec invariant-loop decreases-loop (λ c κs. search rules) returns loop-holds (λ c. search rules)
+    (λ c. search rules) (λ c κs. (sizes c.before.before.before).0) returns-2 (λ c. search rules) (λ c. search rules)
+    loop-again returns-3)

@@ -199,4 +199,12 @@ returns-6 c =
 
 pub within_limits_spec : {M : Type 1} → statement M
 within_limits_spec =
-    tie.close (tie.spec invariant-loop decreases-loop invariant-loop2 decreases-loop2 (λ c κs. search rules) returns (λ c κs. search rules) loop-holds (λ c. search rules) (λ c. search rules) (λ c κs. (sizes (of_g c.before.before.before)).0) returns-2 (λ c. search rules) (λ c. search rules) (λ c. search rules) (λ c. search rules) loop-again (λ c κs. search rules) loop2-holds (λ c. search rules) (λ c. search rules) (λ c κs. (sizes (of_xz c.before.before)).0) returns-3 (λ c. search rules) (λ c. search rules) (λ c. search rules) (λ c. search rules) (λ c κs. (sizes (of_xz (at_x c.before.before))).0) returns-4 (λ c. search rules) (λ c. search rules) (λ c. search rules) (λ c. search rules) loop2-again (λ c κs. search rules) returns-5 (λ c κs. (sizes (of_xz (at_end c.before.before))).0) returns-6)
+    tie.close
+    (tie.spec invariant-loop decreases-loop invariant-loop2 decreases-loop2 (λ c κs. search rules) returns
+    (λ c κs. search rules) loop-holds (λ c. search rules) (λ c. search rules)
+    (λ c κs. (sizes (of_g c.before.before.before)).0) returns-2 (λ c. search rules) (λ c. search rules)
+    (λ c. search rules) (λ c. search rules) loop-again (λ c κs. search rules) loop2-holds (λ c. search rules)
+    (λ c. search rules) (λ c κs. (sizes (of_xz c.before.before)).0) returns-3 (λ c. search rules)
+    (λ c. search rules) (λ c. search rules) (λ c. search rules) (λ c κs. (sizes (of_xz (at_x c.before.before))).0)
+    returns-4 (λ c. search rules) (λ c. search rules) (λ c. search rules) (λ c. search rules) loop2-again
+    (λ c κs. search rules) returns-5 (λ c κs. (sizes (of_xz (at_end c.before.before))).0) returns-6)

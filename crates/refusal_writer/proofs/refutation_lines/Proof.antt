@@ -120,4 +120,8 @@ returns c = ((behind_f c).count, (behind_f c).content)
 
 pub refutation_lines_spec : {M : Type 1} → statement M
 refutation_lines_spec =
-    tie.close (tie.spec (λ c κs. search rules) (λ c κs. search rules) (λ c. inside_at c.before) (λ c. inside_at c.before) (λ c. search rules) (λ c κs. search rules) (λ c κs. search rules) add-end (λ c. inside_e c.before) (λ c. inside_e c.before) (λ c. search rules) (λ c κs. search rules) (λ c κs. search rules) add-end-2 (λ c. (behind_f c).size) returns)
+    tie.close
+    (tie.spec (λ c κs. search rules) (λ c κs. search rules) (λ c. inside_at c.before) (λ c. inside_at c.before)
+    (λ c. search rules) (λ c κs. search rules) (λ c κs. search rules) add-end (λ c. inside_e c.before)
+    (λ c. inside_e c.before) (λ c. search rules) (λ c κs. search rules) (λ c κs. search rules) add-end-2
+    (λ c. (behind_f c).size) returns)

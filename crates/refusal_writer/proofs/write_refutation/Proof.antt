@@ -89,4 +89,7 @@ returns-4 c =
 
 pub write_refutation_spec : {M : Type 1} → statement M
 write_refutation_spec =
-    tie.close (tie.spec returns returns-2 (λ c κs. search rules) (λ c. record { fits = omega (arith, size_fits c) }) (λ c. search rules) (λ c. search rules) (λ c. record { fits = omega (arith, size_fits c) }) returns-3 refutation-lines-requires (λ c. search rules) returns-4)
+    tie.close
+    (tie.spec returns returns-2 (λ c κs. search rules) (λ c. record { fits = omega (arith, size_fits c) })
+    (λ c. search rules) (λ c. search rules) (λ c. record { fits = omega (arith, size_fits c) }) returns-3
+    refutation-lines-requires (λ c. search rules) returns-4)

@@ -37,4 +37,6 @@ returns-2 c =
 
 pub without_lowest_spec : {M : Type 1} → statement M
 without_lowest_spec =
-    tie.close (tie.spec invariant-loop decreases-loop (λ c. refl) (λ c. search rules) (λ c. search rules) (λ c. search rules) loop-again returns returns-2)
+    tie.close
+    (tie.spec invariant-loop decreases-loop (λ c. refl) (λ c. search rules) (λ c. search rules) (λ c. search rules)
+    loop-again returns returns-2)

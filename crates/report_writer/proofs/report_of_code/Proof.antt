@@ -71,4 +71,6 @@ returns-2 c =
 
 pub report_of_code_spec : {M : Type 1} → statement M
 report_of_code_spec =
-    tie.close (tie.spec (λ c κs. search rules) (λ c. search rules) (λ c κs. search rules) (λ c. search rules) (λ c. search rules) add-t12 (λ c κs. search rules) (λ c. search rules) returns (λ c. search rules) returns-2)
+    tie.close
+    (tie.spec (λ c κs. search rules) (λ c. search rules) (λ c κs. search rules) (λ c. search rules)
+    (λ c. search rules) add-t12 (λ c κs. search rules) (λ c. search rules) returns (λ c. search rules) returns-2)

@@ -100,4 +100,7 @@ returns-3 c =
 
 pub write_report_spec : {M : Type 1} → statement M
 write_report_spec =
-    tie.close (tie.spec (λ c κs. search rules) (λ c. search rules) (λ c κs. search rules) (λ c. search rules) returns (λ c. search rules) (λ c κs. search rules) (λ c. search rules) (λ c κs. search rules) (λ c. search rules) returns-2 (λ c. search rules) (λ c κs. search rules) report-of-code-requires (λ c. search rules) returns-3)
+    tie.close
+    (tie.spec (λ c κs. search rules) (λ c. search rules) (λ c κs. search rules) (λ c. search rules) returns
+    (λ c. search rules) (λ c κs. search rules) (λ c. search rules) (λ c κs. search rules) (λ c. search rules)
+    returns-2 (λ c. search rules) (λ c κs. search rules) report-of-code-requires (λ c. search rules) returns-3)

@@ -68,4 +68,6 @@ returns-3 c =
 
 pub claim_line_spec : {M : Type 1} → statement M
 claim_line_spec =
-    tie.close (tie.spec (λ c κs. search rules) (λ c. search rules) returns (λ c κs. search rules) (λ c. search rules) (λ c. search rules) returns-2 add-t6 returns-3)
+    tie.close
+    (tie.spec (λ c κs. search rules) (λ c. search rules) returns (λ c κs. search rules) (λ c. search rules)
+    (λ c. search rules) returns-2 add-t6 returns-3)

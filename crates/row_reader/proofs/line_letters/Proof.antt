@@ -51,4 +51,6 @@ returns-3 c =
 
 pub line_letters_spec : {M : Type 1} → statement M
 line_letters_spec =
-    tie.close (tie.spec returns (λ c. search rules) (λ c κs. search rules) returns-2 (λ c. search rules) (λ c. search rules) (λ c. search rules) part-read-letters-end (λ c κs. search rules) returns-3)
+    tie.close
+    (tie.spec returns (λ c. search rules) (λ c κs. search rules) returns-2 (λ c. search rules) (λ c. search rules)
+    (λ c. search rules) part-read-letters-end (λ c κs. search rules) returns-3)

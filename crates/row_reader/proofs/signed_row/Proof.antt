@@ -59,4 +59,6 @@ returns-3 c =
 
 pub signed_row_spec : {M : Type 1} → statement M
 signed_row_spec =
-    tie.close (tie.spec (λ c κs. search rules) (λ c. search rules) (λ c. search rules) returns shared-slice-read-read (λ c κs. search rules) (λ c. search rules) (λ c. search rules) returns-2 add-t9 (λ c κs. search rules) returns-3)
+    tie.close
+    (tie.spec (λ c κs. search rules) (λ c. search rules) (λ c. search rules) returns shared-slice-read-read
+    (λ c κs. search rules) (λ c. search rules) (λ c. search rules) returns-2 add-t9 (λ c κs. search rules) returns-3)

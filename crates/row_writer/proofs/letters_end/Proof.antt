@@ -31,4 +31,7 @@ returns c =
 
 pub letters_end_spec : {M : Type 1} → statement M
 letters_end_spec =
-    tie.close (tie.spec (λ c. omega (arith, c.requires)) (λ c. sym (length-take-le _ _ (omega (arith, c.requires)))) (λ c κs. search rules) (λ c. omega (arith, size c, (start c).requires)) (λ c. length-set {A = ℕ} (filled c) (start c).args.n 10 ∙ size c) returns)
+    tie.close
+    (tie.spec (λ c. omega (arith, c.requires)) (λ c. sym (length-take-le _ _ (omega (arith, c.requires))))
+    (λ c κs. search rules) (λ c. omega (arith, size c, (start c).requires))
+    (λ c. length-set {A = ℕ} (filled c) (start c).args.n 10 ∙ size c) returns)

@@ -61,4 +61,6 @@ returns c =
 
 pub letters_line_spec : {M : Type 1} → statement M
 letters_line_spec =
-    tie.close (tie.spec slice-write-out slice-write-out-2 sub-letters-end part-letters-end-start (λ c. search rules) letters-end-requires (λ c. search rules) same_length returns)
+    tie.close
+    (tie.spec slice-write-out slice-write-out-2 sub-letters-end part-letters-end-start (λ c. search rules)
+    letters-end-requires (λ c. search rules) same_length returns)

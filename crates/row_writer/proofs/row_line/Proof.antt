@@ -77,4 +77,7 @@ returns c =
 
 pub row_line_spec : {M : Type 1} → statement M
 row_line_spec =
-    tie.close (tie.spec slice-write-out slice-write-out-2 (λ c κs. search rules) (λ c κs. search rules) slice-write-out-3 sub-letters-end part-letters-end-start (λ c. search rules) letters-end-requires (λ c. search rules) same_length returns)
+    tie.close
+    (tie.spec slice-write-out slice-write-out-2 (λ c κs. search rules) (λ c κs. search rules) slice-write-out-3
+    sub-letters-end part-letters-end-start (λ c. search rules) letters-end-requires (λ c. search rules) same_length
+    returns)

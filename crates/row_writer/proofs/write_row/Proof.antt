@@ -63,4 +63,5 @@ returns-3 c =
 
 pub write_row_spec : {M : Type 1} → statement M
 write_row_spec =
-    tie.close (tie.spec (λ c κs. search rules) returns add-if2 returns-2 row-line-requires (λ c. search rules) returns-3)
+    tie.close
+    (tie.spec (λ c κs. search rules) returns add-if2 returns-2 row-line-requires (λ c. search rules) returns-3)

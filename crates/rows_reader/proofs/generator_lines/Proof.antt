@@ -125,4 +125,7 @@ returns-5 c =
 
 pub generator_lines_spec : {M : Type 1} → statement M
 generator_lines_spec =
-    tie.close (tie.spec (λ c κs. search rules) returns (λ c κs. search rules) (λ c κs. search rules) inside inside (λ c. search rules) (λ c κs. search rules) (λ c κs. search rules) returns-2 (λ c κs. search rules) returns-3 (λ c κs. search rules) returns-4 returns-5)
+    tie.close
+    (tie.spec (λ c κs. search rules) returns (λ c κs. search rules) (λ c κs. search rules) inside inside
+    (λ c. search rules) (λ c κs. search rules) (λ c κs. search rules) returns-2 (λ c κs. search rules) returns-3
+    (λ c κs. search rules) returns-4 returns-5)

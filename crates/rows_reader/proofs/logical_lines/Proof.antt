@@ -135,4 +135,7 @@ returns-4 c =
 
 pub logical_lines_spec : {M : Type 1} → statement M
 logical_lines_spec =
-    tie.close (tie.spec (λ c κs. search rules) returns (λ c κs. search rules) (λ c κs. search rules) (λ c κs. search rules) returns-2 inside inside-start (λ c. search rules) (λ c κs. search rules) add-off-form (λ c κs. search rules) returns-3 add-t13 returns-4)
+    tie.close
+    (tie.spec (λ c κs. search rules) returns (λ c κs. search rules) (λ c κs. search rules) (λ c κs. search rules)
+    returns-2 inside inside-start (λ c. search rules) (λ c κs. search rules) add-off-form (λ c κs. search rules)
+    returns-3 add-t13 returns-4)

@@ -137,4 +137,7 @@ returns c =
 
 pub row_lines_spec : {M : Type 1} → statement M
 row_lines_spec =
-    tie.close (tie.spec invariant-loop decreases-loop loop-holds mul-write-row array-copy-out-write-row sub-write-row part-write-row-start (λ c. search rules) (λ c κs. search rules) (λ c κs. search rules) add-end (λ c. search rules) (λ c. search rules) loop-again same_length returns)
+    tie.close
+    (tie.spec invariant-loop decreases-loop loop-holds mul-write-row array-copy-out-write-row sub-write-row
+    part-write-row-start (λ c. search rules) (λ c κs. search rules) (λ c κs. search rules) add-end
+    (λ c. search rules) (λ c. search rules) loop-again same_length returns)

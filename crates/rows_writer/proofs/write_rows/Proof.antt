@@ -109,4 +109,6 @@ returns-4 c =
 
 pub write_rows_spec : {M : Type 1} → statement M
 write_rows_spec =
-    tie.close (tie.spec returns returns-2 (λ c κs. search rules) (λ c. search rules) mul-if3 returns-3 row-lines-requires (λ c. search rules) returns-4)
+    tie.close
+    (tie.spec returns returns-2 (λ c κs. search rules) (λ c. search rules) mul-if3 returns-3 row-lines-requires
+    (λ c. search rules) returns-4)

@@ -59,4 +59,6 @@ returns c =
 
 pub placed_spec : {M : Type 1} → statement M
 placed_spec =
-    tie.close (tie.spec (λ c κs. search rules) (λ c κs. search rules) mul-t8 add-t9 (λ c. search rules) (λ c. search rules) (λ c κs. search rules) mul-t13 add-t14 (λ c. search rules) (λ c. search rules) returns)
+    tie.close
+    (tie.spec (λ c κs. search rules) (λ c κs. search rules) mul-t8 add-t9 (λ c. search rules) (λ c. search rules)
+    (λ c κs. search rules) mul-t13 add-t14 (λ c. search rules) (λ c. search rules) returns)

@@ -48,4 +48,6 @@ returns-3 c =
 
 pub read_form_spec : {M : Type 1} → statement M
 read_form_spec =
-    tie.close (tie.spec (λ c κs. search rules) (λ c. search rules) (λ c. search rules) returns add-off-form (λ c κs. search rules) returns-2 returns-3)
+    tie.close
+    (tie.spec (λ c κs. search rules) (λ c. search rules) (λ c. search rules) returns add-off-form
+    (λ c κs. search rules) returns-2 returns-3)

@@ -29,4 +29,6 @@ returns-2 c =
 
 pub judged_spec : {M : Type 1} → statement M
 judged_spec =
-    tie.close (tie.spec (λ c κs. search rules) (λ c. search rules) (λ c. search rules) (λ c κs. search rules) returns returns-2)
+    tie.close
+    (tie.spec (λ c κs. search rules) (λ c. search rules) (λ c. search rules) (λ c κs. search rules) returns
+    returns-2)

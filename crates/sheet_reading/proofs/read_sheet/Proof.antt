@@ -65,4 +65,6 @@ returns-3 c =
 
 pub read_sheet_spec : {M : Type 1} → statement M
 read_sheet_spec =
-    tie.close (tie.spec (λ c κs. search rules) (λ c. search rules) (λ c κs. search rules) returns (λ c. search rules) (λ c κs. search rules) add-line (λ c κs. search rules) returns-2 judged-requires returns-3)
+    tie.close
+    (tie.spec (λ c κs. search rules) (λ c. search rules) (λ c κs. search rules) returns (λ c. search rules)
+    (λ c κs. search rules) add-line (λ c κs. search rules) returns-2 judged-requires returns-3)

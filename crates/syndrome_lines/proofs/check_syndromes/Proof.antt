@@ -83,4 +83,7 @@ returns-2 c = checked-all (r c.before) (s c.before) c.loop-end.invariant (search
 
 pub check_syndromes_spec : {M : Type 1} → statement M
 check_syndromes_spec =
-    tie.close (tie.spec invariant-loop decreases-loop loop-holds (λ c. search rules) (λ c. search rules) (λ c. search rules) (λ c κs. search rules) (λ c. search rules) (λ c. search rules) returns add-end add-end-2 add-count loop-less loop-again returns-2)
+    tie.close
+    (tie.spec invariant-loop decreases-loop loop-holds (λ c. search rules) (λ c. search rules) (λ c. search rules)
+    (λ c κs. search rules) (λ c. search rules) (λ c. search rules) returns add-end add-end-2 add-count loop-less
+    loop-again returns-2)

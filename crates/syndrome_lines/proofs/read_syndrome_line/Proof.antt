@@ -55,4 +55,7 @@ returns-4 c =
 
 pub read_syndrome_line_spec : {M : Type 1} → statement M
 read_syndrome_line_spec =
-    tie.close (tie.spec (λ c κs. search rules) (λ c. search rules) returns returns-2 (λ c. search rules) (λ c κs. search rules) returns-3 (λ c. search rules) (λ c. search rules) (λ c. search rules) part-read-syndrome-end (λ c κs. search rules) returns-4)
+    tie.close
+    (tie.spec (λ c κs. search rules) (λ c. search rules) returns returns-2 (λ c. search rules)
+    (λ c κs. search rules) returns-3 (λ c. search rules) (λ c. search rules) (λ c. search rules)
+    part-read-syndrome-end (λ c κs. search rules) returns-4)

@@ -85,4 +85,6 @@ returns c =
 
 pub syndrome_mask_spec : {M : Type 1} → statement M
 syndrome_mask_spec =
-    tie.close (tie.spec invariant-loop decreases-loop (λ c κs. search rules) loop-holds (λ c. search rules) mul-mask mul-symplectic array-copy-out-symplectic (λ c κs. search rules) add-mask (λ c. search rules) loop-again returns)
+    tie.close
+    (tie.spec invariant-loop decreases-loop (λ c κs. search rules) loop-holds (λ c. search rules) mul-mask
+    mul-symplectic array-copy-out-symplectic (λ c κs. search rules) add-mask (λ c. search rules) loop-again returns)

@@ -115,4 +115,7 @@ returns-4 c =
 
 pub read_syndrome_spec : {M : Type 1} → statement M
 read_syndrome_spec =
-    tie.close (tie.spec invariant-loop decreases-loop returns returns-2 loop-holds (λ c. search rules) (λ c. search rules) (λ c κs. search rules) (λ c. search rules) (λ c. search rules) returns-3 mul-mask add-mask (λ c. search rules) loop-again returns-4)
+    tie.close
+    (tie.spec invariant-loop decreases-loop returns returns-2 loop-holds (λ c. search rules) (λ c. search rules)
+    (λ c κs. search rules) (λ c. search rules) (λ c. search rules) returns-3 mul-mask add-mask (λ c. search rules)
+    loop-again returns-4)

@@ -66,4 +66,6 @@ returns c =
 
 pub characters_spec : {M : Type 1} → statement M
 characters_spec =
-    tie.close (tie.spec invariant-loop decreases-loop loop-holds (λ c. search rules) (λ c. search rules) (λ c κs. search rules) slice-write-out (λ c. search rules) (λ c. search rules) loop-again same_length returns)
+    tie.close
+    (tie.spec invariant-loop decreases-loop loop-holds (λ c. search rules) (λ c. search rules)
+    (λ c κs. search rules) slice-write-out (λ c. search rules) (λ c. search rules) loop-again same_length returns)

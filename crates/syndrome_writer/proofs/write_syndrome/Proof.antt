@@ -35,4 +35,6 @@ returns-2 c =
 
 pub write_syndrome_spec : {M : Type 1} → statement M
 write_syndrome_spec =
-    tie.close (tie.spec (λ c κs. search rules) (λ c. search rules) (λ c. search rules) (λ c. search rules) returns (λ c. search rules) returns-2)
+    tie.close
+    (tie.spec (λ c κs. search rules) (λ c. search rules) (λ c. search rules) (λ c. search rules) returns
+    (λ c. search rules) returns-2)

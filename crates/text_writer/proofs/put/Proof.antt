@@ -51,4 +51,6 @@ returns c =
 
 pub put_spec : {M : Type 1} → statement M
 put_spec =
-    tie.close (tie.spec invariant-loop decreases-loop loop-holds (λ c. search rules) slice-write-out (λ c. search rules) (λ c. search rules) loop-again same_length returns)
+    tie.close
+    (tie.spec invariant-loop decreases-loop loop-holds (λ c. search rules) slice-write-out (λ c. search rules)
+    (λ c. search rules) loop-again same_length returns)

@@ -53,4 +53,6 @@ returns-2 c =
 
 pub are_identities_spec : {M : Type 1} → statement M
 are_identities_spec =
-    tie.close (tie.spec invariant-loop decreases-loop loop-holds (λ c. search rules) (λ c. search rules) (λ c κs. search rules) returns (λ c. search rules) (λ c. search rules) loop-again returns-2)
+    tie.close
+    (tie.spec invariant-loop decreases-loop loop-holds (λ c. search rules) (λ c. search rules)
+    (λ c κs. search rules) returns (λ c. search rules) (λ c. search rules) loop-again returns-2)

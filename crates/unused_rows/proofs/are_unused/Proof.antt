@@ -43,4 +43,6 @@ returns-4 c =
 
 pub are_unused_spec : {M : Type 1} → statement M
 are_unused_spec =
-    tie.close (tie.spec (λ c κs. search rules) (λ c κs. search rules) (λ c κs. search rules) returns (λ c κs. search rules) returns-2 (λ c κs. search rules) returns-3 (λ c κs. search rules) returns-4)
+    tie.close
+    (tie.spec (λ c κs. search rules) (λ c κs. search rules) (λ c κs. search rules) returns (λ c κs. search rules)
+    returns-2 (λ c κs. search rules) returns-3 (λ c κs. search rules) returns-4)

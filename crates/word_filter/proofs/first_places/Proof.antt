@@ -69,4 +69,7 @@ returns c =
 
 pub first_places_spec : {M : Type 1} → statement M
 first_places_spec =
-    tie.close (tie.spec invariant-loop decreases-loop (λ c κs. search rules) loop-holds (λ c. search rules) (λ c. search rules) shared-slice-read-slot (λ c κs. search rules) (λ c. search rules) (λ c. search rules) (λ c. search rules) loop-again returns)
+    tie.close
+    (tie.spec invariant-loop decreases-loop (λ c κs. search rules) loop-holds (λ c. search rules)
+    (λ c. search rules) shared-slice-read-slot (λ c κs. search rules) (λ c. search rules) (λ c. search rules)
+    (λ c. search rules) loop-again returns)

@@ -54,4 +54,9 @@ returns c = sum_is c
 
 pub sheet_length_spec : {M : Type 1} → statement M
 sheet_length_spec =
-    tie.close (tie.spec (λ c κs. search rules) mul-rows add-rows (λ c κs. search rules) (λ c κs. search rules) (λ c. record { fits = omega (arith, sum-small c) }) (λ c. record { fits = omega (arith, sum-small c) }) (λ c. record { fits = omega (arith, sum-small c) }) (λ c. record { fits = omega (arith, sum-small c) }) (λ c. record { fits = omega (arith, sum-small c) }) (λ c. record { fits = omega (arith, sum-small c) }) (λ c. record { fits = omega (arith, sum-small c) }) returns)
+    tie.close
+    (tie.spec (λ c κs. search rules) mul-rows add-rows (λ c κs. search rules) (λ c κs. search rules)
+    (λ c. record { fits = omega (arith, sum-small c) }) (λ c. record { fits = omega (arith, sum-small c) })
+    (λ c. record { fits = omega (arith, sum-small c) }) (λ c. record { fits = omega (arith, sum-small c) })
+    (λ c. record { fits = omega (arith, sum-small c) }) (λ c. record { fits = omega (arith, sum-small c) })
+    (λ c. record { fits = omega (arith, sum-small c) }) returns)

@@ -128,4 +128,7 @@ returns c = ((behind_w c).count, (behind_w c).content)
 
 pub sheet_lines_spec : {M : Type 1} → statement M
 sheet_lines_spec =
-    tie.close (tie.spec (λ c κs. search rules) (λ c κs. search rules) inside_n inside_n (λ c. search rules) (λ c κs. search rules) (λ c κs. search rules) add-end (λ c. inside_r c.before) (λ c. inside_r c.before) (λ c. search rules) (λ c κs. search rules) (λ c κs. search rules) add-end-2 (λ c. (behind_w c).size) returns)
+    tie.close
+    (tie.spec (λ c κs. search rules) (λ c κs. search rules) inside_n inside_n (λ c. search rules)
+    (λ c κs. search rules) (λ c κs. search rules) add-end (λ c. inside_r c.before) (λ c. inside_r c.before)
+    (λ c. search rules) (λ c κs. search rules) (λ c κs. search rules) add-end-2 (λ c. (behind_w c).size) returns)

@@ -62,4 +62,6 @@ returns-3 c =
 
 pub write_sheet_spec : {M : Type 1} → statement M
 write_sheet_spec =
-    tie.close (tie.spec (λ c κs. search rules) returns sheet-length-requires returns-2 sheet-lines-requires (λ c. search rules) returns-3)
+    tie.close
+    (tie.spec (λ c κs. search rules) returns sheet-length-requires returns-2 sheet-lines-requires
+    (λ c. search rules) returns-3)

@@ -36,4 +36,7 @@ returns-4 c = of-family _ _ c.in-LogicalZ.is
 
 pub row_spec : {M : Type 1} → statement M
 row_spec =
-    tie.close (tie.spec (λ c κs. search rules) returns (λ c. search rules) (λ c. search rules) (λ c. search rules) (λ c. search rules) (λ c. search rules) (λ c. search rules) (λ c. search rules) (λ c. search rules) (λ c. search rules) returns-2 returns-3 returns-4)
+    tie.close
+    (tie.spec (λ c κs. search rules) returns (λ c. search rules) (λ c. search rules) (λ c. search rules)
+    (λ c. search rules) (λ c. search rules) (λ c. search rules) (λ c. search rules) (λ c. search rules)
+    (λ c. search rules) returns-2 returns-3 returns-4)

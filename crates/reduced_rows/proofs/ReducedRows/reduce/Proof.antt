@@ -56,4 +56,6 @@ returns-2 c =
 
 pub reduce_spec : {M : Type 1} → statement M
 reduce_spec =
-    tie.close (tie.spec invariant-loop decreases-loop loop-holds (λ c. search rules) (λ c. search rules) (λ c κs. search rules) (λ c. search rules) loop-less loop-again returns returns-2)
+    tie.close
+    (tie.spec invariant-loop decreases-loop loop-holds (λ c. search rules) (λ c. search rules)
+    (λ c κs. search rules) (λ c. search rules) loop-less loop-again returns returns-2)

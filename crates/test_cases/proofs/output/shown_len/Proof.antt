@@ -41,4 +41,6 @@ returns-2 c =
 
 pub shown_len_spec : {M : Type 1} → statement M
 shown_len_spec =
-    tie.close (tie.spec invariant-loop decreases-loop loop-holds (λ c. search rules) (λ c. search rules) (λ c. search rules) (λ c. search rules) loop-again returns returns-2)
+    tie.close
+    (tie.spec invariant-loop decreases-loop loop-holds (λ c. search rules) (λ c. search rules) (λ c. search rules)
+    (λ c. search rules) loop-again returns returns-2)
