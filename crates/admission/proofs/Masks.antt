@@ -44,7 +44,8 @@ module _ (n : ℕ) (s : List Letter) (count : length s ≡ n) where
   unfolding of_letters
   string-returns = ap of_letters (ap (λ m. letters_of m (of_letters s)) (sym count) ∙ letters-return Plus s)
 
-pub letters-keep-masks : (n : ℕ) (P : Pauli) → on_qubits n P ≡ true → masks_of (of_letters (letters_of n P)) ≡ masks_of P
+pub letters-keep-masks : (n : ℕ) (P : Pauli) → on_qubits n P ≡ true
+    → masks_of (of_letters (letters_of n P)) ≡ masks_of P
 unfolding masks_of of_letters signed_row row_of
 letters-keep-masks n P on =
     let q = on-qubits n P on in let m = masks-return n P q.0 q.1 in ap₂ (pauli 0) m.0 m.1

@@ -16,7 +16,8 @@ use Rattle.pauli.proofs.Modulo.{same-remainder}
 use Rattle.pauli.proofs.Product.{same_parts}
 use Rattle.code_record.specs.declared.Code.{Code}
 use Rattle.refusals.specs.declared.Refusal.{Refusal}
-use Rattle.code_record.specs.Record.{generators, logical_count, logical_xs, logical_zs, generators_at, logicals_at, claim_at}
+use Rattle.code_record.specs.Record.{generators, logical_count, logical_xs, logical_zs, generators_at, logicals_at}
+use Rattle.code_record.specs.Record.{claim_at}
 use Rattle.code_record.specs.Record.{longest_input, within_limits, Sized}
 use Rattle.refusals.specs.Refusals.{◌then◌}
 use Rattle.code_record.proofs.Limits.{all_first}
@@ -61,7 +62,8 @@ all-modulo4 P (g ∷ rows) =
     all_first (commutes P) (modulo4 g) (map modulo4 rows) ∙ ap (λ b. commutes P g && b) (all-modulo4 P rows)
     ∙ sym (all_first (commutes P) g rows)
 
-in-group-modulo4 : (rows : List Pauli) (P : Pauli) → in_group_up_to_phase (map modulo4 rows) P ≡ in_group_up_to_phase rows P
+in-group-modulo4 : (rows : List Pauli) (P : Pauli) → in_group_up_to_phase (map modulo4 rows) P
+    ≡ in_group_up_to_phase rows P
 unfolding in_group_up_to_phase
 in-group-modulo4 rows P = rw group-modulo4
 

@@ -64,7 +64,8 @@ module _ (at : ℕ) (c : Code) where
   unfolding dependence
   dependence-refuses =
       along-rows dependence
-      (λ before line P h. then-lawful (refuse_if-lawful _ _ (OfChecks.seven h)) (refuse_if-lawful _ _ (OfChecks.eight h)))
+      (λ before line P h. then-lawful (refuse_if-lawful _ _ (OfChecks.seven h))
+      (refuse_if-lawful _ _ (OfChecks.eight h)))
       [] _ _ (omega arith)
 
   detected-refuses : IfRefused (OfChecks at c) (detected_fault c)

@@ -10,7 +10,8 @@ use Rattle.stabilizer.specs.Checks.{generator_fault}
 use Rattle.admission.specs.declared.Admission.{Admission}
 use Rattle.admission.specs.declared.Reading.{Reading}
 use Rattle.admission.specs.Logicals.{detected_fault, pairing_fault}
-use Rattle.admission.specs.Distance.{claimed_weight_fault, claimed_detected_fault, claimed_in_group_fault, distance_fault}
+use Rattle.admission.specs.Distance.{claimed_weight_fault, claimed_detected_fault, claimed_in_group_fault}
+use Rattle.admission.specs.Distance.{distance_fault}
 
 -- RULES, "Admission": 6 to 13 in this order, and then 14. The line that w stands on is given to the checks of w.
 unfoldable pub fault_but_distance : ℕ → Code → Option Refusal

@@ -12,7 +12,8 @@ use Rattle.claim_checks.specs.Statements.{ClaimChecksAreOfAdmission, ClaimRefusa
 pub claim-checks-are-of-admission : ClaimChecksAreOfAdmission
 unfolding claim_fault claimed_in_group_fault
 claim-checks-are-of-admission at c hs decides =
-    ap (λ t. claimed_weight_fault at c then claimed_detected_fault at c then refuse_if t (Refusal.ClaimedInGroup at)) decides
+    ap (λ t. claimed_weight_fault at c then claimed_detected_fault at c then refuse_if t (Refusal.ClaimedInGroup at))
+    decides
 
 pub claim-refusal-numbers : ClaimRefusalNumbers
 unfolding claim_fault claimed_weight_fault claimed_detected_fault any_of

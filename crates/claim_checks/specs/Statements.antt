@@ -18,7 +18,8 @@ abbrev pub ClaimChecksAreOfAdmission : Type 0
 ClaimChecksAreOfAdmission =
     (at : ℕ) (c : Code) (hs : ReducedRows)
     → reduces_to_identity hs.n (rows_in hs) c.w ≡ in_group_up_to_phase (generators c) c.w
-    → claim_fault at c hs ≡ (claimed_weight_fault at c then claimed_detected_fault at c then claimed_in_group_fault at c)
+    → claim_fault at c hs
+    ≡ (claimed_weight_fault at c then claimed_detected_fault at c then claimed_in_group_fault at c)
 
 -- RULES, "Refusals": the numbers with which the call refuses.
 abbrev pub ClaimRefusalNumbers : Type 0

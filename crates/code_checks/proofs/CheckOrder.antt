@@ -18,7 +18,8 @@ use Rattle.elimination.specs.Answers.{eliminated, elimination}
 use Rattle.elimination.proofs.Answered.{fault-answered, rows-answered, refusal-answered}
 use Rattle.elimination.proofs.Passed.{fault-told, contains-decides-membership}
 use Rattle.admission.specs.Admission.{fault_but_distance, code_fault}
-use Rattle.admission.specs.Distance.{claimed_weight_fault, claimed_detected_fault, claimed_in_group_fault, distance_fault}
+use Rattle.admission.specs.Distance.{claimed_weight_fault, claimed_detected_fault, claimed_in_group_fault}
+use Rattle.admission.specs.Distance.{distance_fault}
 use Rattle.admission.specs.Logicals.{detected_fault, pairing_fault}
 use Rattle.logical_checks.proofs.Limits.{within-limits-passes}
 use Rattle.claim_checks.specs.Claim.{claim_fault}
@@ -34,7 +35,8 @@ module _ (at : ℕ) (c : Code) {e : Elimination} (known : e ≡ elimination c) w
 
   abbrev weights : Option Refusal
   weights =
-      (claimed_weight_fault at c then claimed_detected_fault at c then claimed_in_group_fault at c) then distance_fault at c
+      (claimed_weight_fault at c then claimed_detected_fault at c then claimed_in_group_fault at c) then distance_fault
+      at c
 
   whole : (group_fault c then logicals then weights) ≡ (limits_fault c then code_fault at c)
   unfolding group_fault code_fault fault_but_distance
@@ -61,7 +63,8 @@ module _ (at : ℕ) (c : Code) {e : Elimination} (known : e ≡ elimination c) w
     within =
         ap (λ l. l then logicals)
         (within-limits-passes c
-        (first-none (limits_fault c) (generator_fault (generators_at c) (generators c)) (sym (fault-told c known passed))))
+        (first-none (limits_fault c) (generator_fault (generators_at c) (generators c))
+        (sym (fault-told c known passed))))
 
     by_rows : (claim_fault at c e.reduced then distance_by at c e.reduced) ≡ weights
     by_rows =

@@ -17,7 +17,8 @@ use Rattle.sheet.proofs.Numbers.{IfRefused, law-of-refusal, refuse_if-lawful, th
 use Rattle.stabilizer.proofs.Tests.{any_append}
 use Rattle.stabilizer.proofs.Theorems.{first-lawful, generators-lawful}
 use Rattle.admission.specs.Admission.{fault_but_distance, code_fault}
-use Rattle.admission.specs.Distance.{claimed_weight_fault, claimed_detected_fault, claimed_in_group_fault, distance_fault}
+use Rattle.admission.specs.Distance.{claimed_weight_fault, claimed_detected_fault, claimed_in_group_fault}
+use Rattle.admission.specs.Distance.{distance_fault}
 use Rattle.admission.specs.Distance.{logical_error_up_to, refuting_pair}
 use Rattle.admission.specs.Logicals.{detected, mispaired, detected_fault, pairing_fault}
 use Rattle.admission.specs.Statements.{ShowsEarliest}
@@ -68,7 +69,8 @@ code-refusal-numbers at c =
 -- ---- 14
 
 -- Of the checks before 14, none refuses with it.
-earlier-lawful : (at : ℕ) (c : Code) → IfRefused (Among (early ++ 15 ∷ [])) (limits_fault c then fault_but_distance at c)
+earlier-lawful : (at : ℕ) (c : Code) → IfRefused (Among (early ++ 15 ∷ []))
+    (limits_fault c then fault_but_distance at c)
 unfolding any_of
 earlier-lawful at c = then-lawful (limits-lawful c refl) (but-distance _ at c (more (15 ∷ [])))
 

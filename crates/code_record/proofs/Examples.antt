@@ -44,7 +44,8 @@ radii = refl
 inside : List Code
 inside =
     code_k 2 1 zz xx zi zi ∷ code_k 2 7 zz xx zi zi ∷ code_k 24 1 zz xx zi zi
-    ∷ code_k 2 1 (signed_row Minus (Z ∷ Z ∷ [])) xx (record { p = 4; a = 0; b = 1 }) (record { p = 8; a = 0; b = 1 }) ∷ []
+    ∷ code_k 2 1 (signed_row Minus (Z ∷ Z ∷ [])) xx (record { p = 4; a = 0; b = 1 }) (record { p = 8; a = 0; b = 1 }) ∷
+    []
 
 outside : List Code
 outside =
@@ -52,7 +53,8 @@ outside =
     ∷ code_k 2 0 zz xx zi zi ∷ code_k 2 8 zz xx zi zi
     -- r is 0, and n
     ∷ code_of 2 1 [] (xx ∷ []) (zi ∷ []) zi ∷ code_of 2 1 (zz ∷ xx ∷ []) [] [] zi
-    ∷ code_k 2 1 above-a xx zi zi ∷ code_k 2 1 above-b xx zi zi ∷ code_k 2 1 zz above-a zi zi ∷ code_k 2 1 zz xx above-b zi
+    ∷ code_k 2 1 above-a xx zi zi ∷ code_k 2 1 above-b xx zi zi ∷ code_k 2 1 zz above-a zi zi ∷ code_k 2 1 zz xx above-b
+    zi
     ∷ code_k 2 1 zz xx zi above-a ∷ code_k 2 1 zz xx zi above-b
     ∷ code_k 2 1 turned xx zi zi ∷ code_k 2 1 zz turned zi zi ∷ code_k 2 1 zz xx turned zi
     -- w has sign -

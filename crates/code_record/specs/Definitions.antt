@@ -6,6 +6,7 @@ use Rattle.code_record.specs.Record.{logical_zs, generators_at, logicals_at, cla
 use Rattle.code_record.specs.Record.{between, on_qubits, is_row, is_claim, are_rows, within_limits, limits_fault}
 
 unfoldable pub definitions : Unit {0}
-unfolding pair_count most_generators logical_count radius generators logical_xs logical_zs generators_at logicals_at claim_at
+unfolding pair_count most_generators logical_count radius generators logical_xs logical_zs generators_at logicals_at
+    claim_at
     filled code_of empty_code between on_qubits is_row is_claim are_rows within_limits limits_fault definitions-refusals
 definitions = tt

@@ -18,7 +18,8 @@ use Rattle.stabilizer.proofs.Columns.{column-x, column-z, column-outside, pivot-
 -- ---- the zeros below a first one, as a machine counts them
 
 module _ (n m : ℕ) where
-  pub one-tested : m < 2 ^ 32 → count_trailing_zeros 32 m < 32 → ltb (count_trailing_zeros 32 m) n ≡ ltb (first_one (bits n m)) n
+  pub one-tested : m < 2 ^ 32 → count_trailing_zeros 32 m < 32
+      → ltb (count_trailing_zeros 32 m) n ≡ ltb (first_one (bits n m)) n
   one-tested fits here = elim (dec_lt (count_trailing_zeros 32 m) n) [
     | yes l ↦ ap (λ (k : ℕ). ltb k n) (sym (first_one-found n 32 m l here))
     | no l ↦

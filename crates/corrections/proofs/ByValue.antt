@@ -80,7 +80,8 @@ nothing_above : (c : Code) (mask : ℕ) → 2 ^ length (generators c) ≤ mask �
 unfolding earliest_with
 nothing_above c mask above = go (earliest_with c (radius c) mask) refl
   where
-    go : (found : Option (List Letter)) → earliest_with c (radius c) mask ≡ found → earliest_with c (radius c) mask ≡ none
+    go : (found : Option (List Letter)) → earliest_with c (radius c) mask ≡ found
+        → earliest_with c (radius c) mask ≡ none
     go none e = e
     go (some s) e =
         let first = first-is-earliest _ (strings_up_to (word_qubits c) (radius c))

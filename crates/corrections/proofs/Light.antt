@@ -18,7 +18,8 @@ use Rattle.corrections.proofs.ByValue.{of-masks}
 
 module _ (c : Code) (mask : ℕ) where
   -- What was found is the correction where it is what the definition finds.
-  found-by : (found : Found) → found ≡ found_as (earliest_with c (radius c) mask) → of_masks found ≡ correction_for c mask
+  found-by : (found : Found) → found ≡ found_as (earliest_with c (radius c) mask)
+      → of_masks found ≡ correction_for c mask
   unfolding correction_for
   found-by found e = ap of_masks e ∙ of-masks (earliest_with c (radius c) mask)
 

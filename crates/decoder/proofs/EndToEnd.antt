@@ -30,7 +30,8 @@ use Rattle.stabilizer.proofs.Theorems.{first-lawful, generators-lawful}
 use Rattle.admission.specs.declared.Admission.{Admission}
 use Rattle.admission.specs.Admission.{AdmissibleButForDistance, fault_but_distance, code_fault, admission_refusal}
 use Rattle.admission.specs.Admission.{admitted, refused_reading, reading_of, checked, read_sheet}
-use Rattle.admission.specs.Distance.{claimed_weight_fault, claimed_detected_fault, claimed_in_group_fault, distance_fault}
+use Rattle.admission.specs.Distance.{claimed_weight_fault, claimed_detected_fault, claimed_in_group_fault}
+use Rattle.admission.specs.Distance.{distance_fault}
 use Rattle.admission.specs.Logicals.{detected, mispaired, logicals, detected_fault, pairing_fault}
 use Rattle.admission.proofs.Admitted.{admitted-as, admitted-lawful, form-has-nothing-behind, read-by-distance}
 use Rattle.admission.proofs.RefutingPair.{refusal-is-distance-fault, refuting-pair-is-from-earliest}
@@ -119,8 +120,10 @@ unfolding fault_but_distance detected_fault pairing_fault detected mispaired cla
     claimed_in_group_fault
 other-checks at c =
     then-lawful (generators-lawful (generators_at c) (generators c) (λ _ _. refl) (λ _ _. refl) (λ _ _. refl))
-    (then-lawful (first-lawful (detected c) (λ before line P. refuse_if-lawful _ _ refl) [] (logicals_at c) (logicals c))
-    (then-lawful (first-lawful (mispaired c) (λ before line P. refuse_if-lawful _ _ refl) [] (logicals_at c) (logicals c))
+    (then-lawful (first-lawful (detected c) (λ before line P. refuse_if-lawful _ _ refl) [] (logicals_at c)
+    (logicals c))
+    (then-lawful (first-lawful (mispaired c) (λ before line P. refuse_if-lawful _ _ refl) [] (logicals_at c)
+    (logicals c))
     (then-lawful (refuse_if-lawful _ _ refl) (then-lawful (refuse_if-lawful _ _ refl) (refuse_if-lawful _ _ refl)))))
 
 -- ---- the distance is decided

@@ -90,7 +90,8 @@ module _ (n line : ℕ) (rows : List Pauli) (count : ℕ) where
   stepped-none : Stepped 0
   stepped-none = record { independent = independent-none n; left = fault-start dependence rows count 0 line refl }
 
-  pub stepped-end : {place : ℕ} → Stepped place → count ≤ place → none ≡ first_fault dependence [] line (take count rows)
+  pub stepped-end : {place : ℕ} → Stepped place → count ≤ place
+      → none ≡ first_fault dependence [] line (take count rows)
   stepped-end {place} s end = sym (fault-end dependence rows count place line (inl end)) ∙ s.left
 
   -- The rows are of n qubits and commute.

@@ -28,7 +28,8 @@ independence n rows =
 unfoldable pub rows_elimination : ℕ → ℕ → List Pauli → Elimination
 rows_elimination n r g =
     eliminated
-    (refuse_if (not (generators_within n r g)) Refusal.RecordLimits then generator_fault first_generator_at (take r g)) n
+    (refuse_if (not (generators_within n r g)) Refusal.RecordLimits then generator_fault first_generator_at (take r g))
+    n
     (canonical_generators n (take r g))
 
 -- RULES, "Calls and buffers": the same of a record, with all of its limits.

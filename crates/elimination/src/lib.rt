@@ -46,7 +46,8 @@ fn dependence_of(r: usize, g: [Pauli; ROW_ROOM], reduced: ReducedRows) -> Checke
     requires g_value_2 { first_fault clash [] first_generator_at (take r g) ≡ none }
     requires reduced_value { reduced ≡ reduced_of reduced.n (independent_rows reduced.n [] (take r g)) }
     ensures result_value { checked_refusal result ≡ first_fault dependence [] first_generator_at (take r g) }
-    ensures reduced_value_2 { result ≡ Passed → reduced ≡ reduced_of reduced.n (canonical_generators reduced.n (take r g)) }
+    ensures reduced_value_2 { result ≡ Passed
+        → reduced ≡ reduced_of reduced.n (canonical_generators reduced.n (take r g)) }
 {
     let place = reduced.count;
     if place == r {

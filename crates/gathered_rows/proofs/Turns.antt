@@ -86,7 +86,8 @@ module _ (most : ℕ) (key : String) (n : ℕ) (s : List ℕ) where
               ∙ ap (λ m. joined h.read (rows_in_turn m key n (drop end s))) left
               ∙ ap (joined h.read) (turn-row key n (most - (count + 1)) (drop end s) e)
               ∙ joined-row h.read row (rows_in_turn (most - (count + 1)) key n (drop used (drop end s)))
-              ∙ ap (λ t. joined (h.read ++ row ∷ []) (rows_in_turn (most - (count + 1)) key n t)) (drop-drop used end s);
+              ∙ ap (λ t. joined (h.read ++ row ∷ []) (rows_in_turn (most - (count + 1)) key n t))
+              (drop-drop used end s);
         }
 
     -- no row is left

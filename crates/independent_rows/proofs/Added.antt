@@ -95,7 +95,8 @@ module _ (n : ℕ) (rows : List Pauli) (count : ℕ) where
         clearing-none n q (rows_in hs) place few (ap length rows_are ∙ s.sized)
         (s.held ∙ ap (reduced_of n) (sym rows_are))
 
-    pub added-end : (count ≤ place) ⊎ (length rows ≤ place) → hs ≡ reduced_of n (independent_rows n [] (take count rows))
+    pub added-end : (count ≤ place) ⊎ (length rows ≤ place) → hs
+        ≡ reduced_of n (independent_rows n [] (take count rows))
     unfolding independent_rows
     added-end end =
         s.held ∙ ap (reduced_of n) (ap (independent_rows n s.sofar) (sym (taken-end rows count place end)) ∙ s.left)
@@ -137,7 +138,8 @@ module _ (n : ℕ) (rows : List Pauli) (count : ℕ) where
           let P = get_or rows place identity in
           let held : longer ≡ reduced_of n (added n s.sofar P) =
           e
-          ∙ ap₂ (λ q hs. reduced_of n (insert_by_pivot n q (map (cleared n q) hs))) (phased ∙ ap modulo4 left_is) rows_are
+          ∙ ap₂ (λ q hs. reduced_of n (insert_by_pivot n q (map (cleared n q) hs))) (phased
+          ∙ ap modulo4 left_is) rows_are
           ∙ ap (reduced_of n) (added_is n s.sofar P (masks new)) in
           record {
             sofar = added n s.sofar P;

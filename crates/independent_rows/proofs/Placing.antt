@@ -247,4 +247,5 @@ module _ {n : ℕ} {q : Pauli} {rows : List Pauli} {size at : ℕ} {hs : Reduced
       ≡ reduced_of n (insert_by_pivot n q (map (cleared n q) rows))
   placed m spread stays =
       let own = cleared-rows n q rows size c end in
-      moving-end n q (rows_in hs) size m (rw own spread) stays ∙ ap (λ rows. reduced_of n (insert_by_pivot n q rows)) own
+      moving-end n q (rows_in hs) size m (rw own spread) stays
+      ∙ ap (λ rows. reduced_of n (insert_by_pivot n q rows)) own

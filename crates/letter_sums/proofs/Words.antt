@@ -78,7 +78,8 @@ module _ (words second : List ℕ) where
   -- What is found behind the letter with number k at the qubit with n qubits to its right.
   abbrev pub behind : ℕ → ℕ → ℕ → ℕ → ℕ → Option (List Letter)
   behind n v want shun k =
-      earliest_of words second n v (bit_xor want (get_or words (3 * n + k) 0)) (bit_xor shun (get_or second (3 * n + k) 0))
+      earliest_of words second n v (bit_xor want (get_or words (3 * n + k) 0))
+      (bit_xor shun (get_or second (3 * n + k) 0))
 
   -- None among the first k of the letters X, Y, Z there.
   abbrev pub NoneBelow : ℕ → ℕ → ℕ → ℕ → ℕ → Type 0
@@ -219,5 +220,6 @@ module _ (words second : List ℕ) where
       (identity-fits right _ _
       (ap (λ (i : ℕ). bit_xor want (get_or words i 0)) at ∙ ap (bit_xor want) own ∙ xor_self want)
       (λ e.
-      unshunned (same-words shun (get_or second place 0) (ap (λ (i : ℕ). bit_xor shun (get_or second i 0)) (sym at) ∙ e)))
+      unshunned (same-words shun (get_or second place 0) (ap (λ (i : ℕ). bit_xor shun (get_or second i 0)) (sym at)
+      ∙ e)))
       ∙ rest.told))

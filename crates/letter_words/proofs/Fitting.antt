@@ -62,7 +62,8 @@ having-bit set mask want qubit within =
         (digit (P 1) p10 p11 (mask / 2 ^ qubit)) (set / 2 ^ qubit)
 
     turned_bit : (turned bit : ℕ) → bit_of turned qubit ≡ bit
-        → bit_of (bit_and set (bit_xor mask turned)) qubit ≡ bit_and (bit_of set qubit) (bit_xor (bit_of mask qubit) bit)
+        → bit_of (bit_and set (bit_xor mask turned)) qubit ≡ bit_and (bit_of set qubit)
+        (bit_xor (bit_of mask qubit) bit)
     turned_bit turned bit e =
         ap (λ (x : ℕ). x % 2) (and_shr set (bit_xor mask turned) qubit)
         ∙ and_low (set / 2 ^ qubit) (bit_xor mask turned / 2 ^ qubit)

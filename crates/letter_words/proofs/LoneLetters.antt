@@ -67,7 +67,8 @@ module _ (c : Code) (want : ℕ) where
 
   -- The word of the letter with number k at the qubit with m to its right.
   word-there : (m k : ℕ) → k < 3 → m < word_qubits c
-      → get_or first (3 * m + k) 0 ≡ syndrome_mask (generators c) (single_letter (word_qubits c - 1 - m) (struck_letter k))
+      → get_or first (3 * m + k) 0 ≡ syndrome_mask (generators c)
+      (single_letter (word_qubits c - 1 - m) (struck_letter k))
   unfolding syndrome_words words_of letter_for
   word-there m k small inside =
       let n = word_qubits c in

@@ -71,7 +71,8 @@ module _ (word : Pauli → ℕ) (additive : Additive word) where
         let l = struck_letter k in
         let masks = masks-of-single g (omega arith) l in
         filled-word (λ at. word (letter_for n at)) (3 * n) (3 * m + k) (omega arith) (omega arith)
-        ∙ ap₂ (λ (place number : ℕ). word (single_letter place (struck_letter number))) (place g m k hk e) (number m k hk)
+        ∙ ap₂ (λ (place number : ℕ). word (single_letter place (struck_letter number))) (place g m k hk e)
+        (number m k hk)
         ∙ additive.of_masks (single_letter g l) (pauli 0 (x_bit l * 2 ^ g) (z_bit l * 2 ^ g)) masks.of_x
         masks.of_z
       where

@@ -15,7 +15,8 @@ pub record WordsSumToSyndromes (c : Code) : Type 0 where
       → sum_of (syndrome_words c).first (word_qubits c) s ≡ syndrome_mask (generators c) (of_letters s)
   pub second : (s : List Letter) → length s ≡ word_qubits c → sum_of (syndrome_words c).second (word_qubits c) s ≡ 0
   pub found : (t want : ℕ)
-      → earliest_up_to (syndrome_words c).first (syndrome_words c).second (word_qubits c) t want 1 ≡ earliest_with c t want
+      → earliest_up_to (syndrome_words c).first (syndrome_words c).second (word_qubits c) t want 1
+      ≡ earliest_with c t want
   pub call : (t want : ℕ) → earliest_by (syndrome_words c) t want 1 ≡ found_as (earliest_with c t want)
 
 abbrev pub SyndromesAreSummed : Type 0

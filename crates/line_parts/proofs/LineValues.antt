@@ -97,7 +97,8 @@ module _ {A : Type 0} (m : ℕ) (read : List ℕ → Option A) (refusal : Refusa
   unfolding got_or
   line-no-value e = line-by-value ∙ ap (λ o. got_or refusal o (drop (m + 3) s)) e
 
-  pub line-value : {a : A} → value_from 2 m read s ≡ some a → line_of (key_of s) m read refusal s ≡ got a (drop (m + 3) s)
+  pub line-value : {a : A} → value_from 2 m read s ≡ some a → line_of (key_of s) m read refusal s
+      ≡ got a (drop (m + 3) s)
   unfolding got_or
   line-value e = line-by-value ∙ ap (λ o. got_or refusal o (drop (m + 3) s)) e
 

@@ -70,7 +70,8 @@ module _ (d : ℕ) (nonzero : d ≡ 0 → ⊥) where
   one-digit (c ∷ []) h p = rw p (number-from d [] (omega arith))
   one-digit (c ∷ c' ∷ w) h p = absurd (omega arith)
 
-  pub no-second-digit : (w : List ℕ) → length w ≡ 2 → read_digit (get_or w 0 0) ≡ some d → read_digit (get_or w 1 0) ≡ none
+  pub no-second-digit : (w : List ℕ) → length w ≡ 2 → read_digit (get_or w 0 0) ≡ some d
+      → read_digit (get_or w 1 0) ≡ none
       → read_number w ≡ none
   unfolding read_number read_each bind
   no-second-digit [] h p q = absurd (omega arith)

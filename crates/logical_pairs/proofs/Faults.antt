@@ -81,7 +81,8 @@ module _ {code : Code} {pairs xs : ℕ} (k : Known code pairs xs) where
   unfolding pairing_fault
   ten-first = from_first (mispaired code) code xs 0 k refl
 
-  pub ten-end : (place : ℕ) → 2 * xs ≤ place → Ten code xs place → fault_at LogicalPairing code place ≡ pairing_fault code
+  pub ten-end : (place : ℕ) → 2 * xs ≤ place → Ten code xs place
+      → fault_at LogicalPairing code place ≡ pairing_fault code
   ten-end place end rest =
       sym (fault-behind LogicalPairing k place end) ∙ from_end (mispaired code) code xs place end ∙ rest
 

@@ -92,7 +92,8 @@ left-product rows P Q =
     ap (with_rows (meets 32 (product P Q)) rows) (word_sum P Q)
     ∙ tests-sum (meets 32 (product P Q)) (meets 32 P) (meets 32 Q) sum rows (mask_word P) (mask_word Q)
   where
-    sum : (h : Pauli) → tested (meets 32 (product P Q) h) h ≡ bit_xor (tested (meets 32 P h) h) (tested (meets 32 Q h) h)
+    sum : (h : Pauli) → tested (meets 32 (product P Q) h) h ≡ bit_xor (tested (meets 32 P h) h)
+        (tested (meets 32 Q h) h)
     sum h =
         let c = pivot 32 h in
         ap (λ (x : ℕ). tested (eqb x 1) h) (column-product 32 P Q c)

@@ -83,7 +83,8 @@ module _ (c : Code) (passed : (elimination c).answer ≡ Checked.Passed) where
   unfolding of_letters signed_row row_of
   member-told s count =
       let short : length s ≤ 32 = omega (arith, few, count) in
-      let fits : (of_letters s).a < 2 ^ 32 = lt_of_lt_of_le (x_mask-lt s) (pow-le-pow_right {n = 2} (omega arith) short) in
+      let fits : (of_letters s).a < 2 ^ 32 = lt_of_lt_of_le (x_mask-lt s) (pow-le-pow_right {n = 2} (omega arith) short)
+      in
       ap (λ (word : ℕ). eqb word 0) (left s count)
       ∙ remainder_tells-members.canonical c.n (generators c) few ((all-of (on_qubits c.n) (generators c)).1 on)
       (of_letters s) fits

@@ -76,7 +76,8 @@ module _ {hs : ReducedRows} {place : ℕ} {sums : List ℕ} (from : SumsFrom hs 
             ap (λ (i : ℕ). get_or (set sums at sum) i 0) same
             ∙ get_or-set_same sums at sum 0 (omega (arith, from.long, pivot-room row begins))
             ∙ ap₂ (λ (i w : ℕ). bit_xor (get_or sums i 0) w) (sym same) own
-            ∙ ap (λ t. bit_xor (get_or sums c 0) (cond t (mask_word row) 0)) (sym (eq-eqb (pivot 32 row) c (omega arith)))
+            ∙ ap (λ t. bit_xor (get_or sums c 0) (cond t (mask_word row) 0))
+            (sym (eq-eqb (pivot 32 row) c (omega arith)))
         | no other ↦
             get_or-set_other sums at c sum 0 other ∙ sym (xor_zero_r (get_or sums c 0))
             ∙ ap (λ t. bit_xor (get_or sums c 0) (cond t (mask_word row) 0))

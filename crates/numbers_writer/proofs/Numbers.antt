@@ -14,7 +14,8 @@ module _ (key : List ℕ) (m : ℕ) (key' : List ℕ) (m' : ℕ) where
   unfolding numbers_text
   numbers-text = refl
 
-  pub length-numbers_text : length (numbers_text key m key' m') ≡ length (number_text key m) + length (number_text key' m')
+  pub length-numbers_text : length (numbers_text key m key' m') ≡ length (number_text key m) + length
+      (number_text key' m')
   length-numbers_text = ap length (sym numbers-text) ∙ length-append (number_text key m) (number_text key' m')
 
   pub numbers-has-room : (buffer : List ℕ) → length (numbers_text key m key' m') ≤ length buffer

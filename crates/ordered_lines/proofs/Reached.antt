@@ -77,19 +77,20 @@ module _ (n at : ℕ) (s : List ℕ) where
   abbrev pub the-generators : List Pauli
   the-generators = value_or [] (generator_lines n at s)
 
-  module _ (r : Rows) (few : n ≤ most_qubits) (h : AnswersRows s r (λ at. within_qubits n at (generator_lines n at))) where
-    rows-answered : (lines_at at r.answer, r.count, r.rows) ≡ rows_answer s (generator_lines n at s)
-    rows-answered = h at ∙ ap (rows_answer s) (few-qubits n at (generator_lines n at) s few)
+  module _ (r : Rows) (few : n ≤ most_qubits) (h : AnswersRows s r (λ at. within_qubits n at (generator_lines n at)))
+    where
+      rows-answered : (lines_at at r.answer, r.count, r.rows) ≡ rows_answer s (generator_lines n at s)
+      rows-answered = h at ∙ ap (rows_answer s) (few-qubits n at (generator_lines n at) s few)
 
-    pub generators-read : Reads s (lines_at at r.answer) the-generators (generator_lines n at s)
-    unfolding rows_answer
-    generators-read =
-        subst (λ answer. Reads s answer the-generators (generator_lines n at s)) (sym (ap (λ x. x.0) rows-answered))
-        (reads_of s [] (generator-lines-outcome n at s))
+      pub generators-read : Reads s (lines_at at r.answer) the-generators (generator_lines n at s)
+      unfolding rows_answer
+      generators-read =
+          subst (λ answer. Reads s answer the-generators (generator_lines n at s)) (sym (ap (λ x. x.0) rows-answered))
+          (reads_of s [] (generator-lines-outcome n at s))
 
-    pub generators-held : counted_rows the-generators ≡ (r.count, r.rows)
-    unfolding rows_answer
-    generators-held = sym (ap (λ x. (x.1, x.2)) rows-answered)
+      pub generators-held : counted_rows the-generators ≡ (r.count, r.rows)
+      unfolding rows_answer
+      generators-held = sym (ap (λ x. (x.1, x.2)) rows-answered)
 
 -- The x and z lines in the same way.
 abbrev logical_text : ℕ → List Pauli × List Pauli → List ℕ

@@ -93,6 +93,7 @@ module _ (from n d : ℕ) (s : List ℕ) where
   unfolding rows_and_claim
   too_many-qubits many = rw (lt-ltb most_qubits n many)
 
-  pub no-such-byte : n ≤ most_qubits → length s < from → rows_and_claim from n d s ≡ stop (Refusal.Form first_generator_at)
+  pub no-such-byte : n ≤ most_qubits → length s < from → rows_and_claim from n d s
+      ≡ stop (Refusal.Form first_generator_at)
   unfolding rows_and_claim
   no-such-byte few behind = rw (le-ltb most_qubits n few, lt-ltb (length s) from behind)

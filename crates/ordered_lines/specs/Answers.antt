@@ -42,7 +42,8 @@ lines_from_g n d =
 -- its form.
 unfoldable pub rows_and_claim : (from n d : ℕ) → Reader SheetRead
 rows_and_claim from n d s =
-    cond (ltb most_qubits n || ltb (length s) from) (stop (Refusal.Form first_generator_at)) (lines_from_g n d (drop from s))
+    cond (ltb most_qubits n || ltb (length s) from) (stop (Refusal.Form first_generator_at))
+    (lines_from_g n d (drop from s))
 
 -- What is read from a byte on.
 abbrev pub ReadsOn : List ℕ → ℕ → Reader SheetRead → LinesReading → Type 0

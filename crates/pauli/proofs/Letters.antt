@@ -94,7 +94,8 @@ pub letters-return : LettersReturn
 unfolding signed_row row_of letters_of
 letters-return sign s = string-returns s
 
-masks-of-letters : (n a b : ℕ) → a < 2 ^ n → b < 2 ^ n → (x_mask (letters_at n a b) ≡ a) × (z_mask (letters_at n a b) ≡ b)
+masks-of-letters : (n a b : ℕ) → a < 2 ^ n → b < 2 ^ n → (x_mask (letters_at n a b) ≡ a)
+    × (z_mask (letters_at n a b) ≡ b)
 unfolding letters_at x_mask z_mask mask_of
 masks-of-letters zero a b ha hb = omega arith
 masks-of-letters (suc n) a b ha hb =

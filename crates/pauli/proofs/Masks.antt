@@ -7,7 +7,8 @@ use Prim.Native.Nat.{ℕ, zero, suc, ◌+◌, ◌*◌, ◌/◌, ◌%◌, ◌^◌
 use native.Mathlib.Nat.{mod-lt, div-eq_of_lt, lt_of_lt_of_le, pow-le-pow_right}
 use native.Mathlib.Omega.{arith}
 use lib.Arith.{bin_ind}
-use lib.Bits.{bit_and, bit_or, bit_xor, and_shr, and_mod, or_shr, or_mod, xor_shr, xor_mod, and_comm, and_le_l, xor_comm}
+use lib.Bits.{bit_and, bit_or, bit_xor, and_shr, and_mod, or_shr, or_mod, xor_shr, xor_mod, and_comm, and_le_l}
+use lib.Bits.{xor_comm}
 use lib.Count.{ones, ones_in, ones_step, ones-le}
 use Rattle.pauli.proofs.Modulo.{same-remainder}
 use Rattle.pauli.specs.Masks.{ones_among, count_ones, dot, bits}
@@ -150,7 +151,8 @@ parity-xor a b = same-remainder 2 _ _ (count_ones (bit_and a b)) 0 (omega (arith
 -- Those of either are fewer by those that they share.
 pub count_ones-or : (a b : ℕ) → count_ones (bit_or a b) + count_ones (bit_and a b) ≡ count_ones a + count_ones b
 count_ones-or =
-    joined-and-shared bit_or or-half or-low (λ a b. count_ones (bit_and a b)) bit_and (joined_step bit_and and-half and_low)
+    joined-and-shared bit_or or-half or-low (λ a b. count_ones (bit_and a b)) bit_and
+    (joined_step bit_and and-half and_low)
     low base
   where
     base : (b : ℕ) → count_ones b + count_ones 0 ≡ count_ones 0 + count_ones b

@@ -43,7 +43,8 @@ low_first x m = omega arith
 
 xor-joined : (x y m k : ℕ) → x < 2 → y < 2 → bit_xor (x + 2 * m) (y + 2 * k) ≡ bit_xor x y + 2 * bit_xor m k
 xor-joined x y m k hx hy =
-    ap₂ bit_xor (low_first x m) (low_first y k) ∙ xor_block 1 m k x y hx hy ∙ sym (low_first (bit_xor x y) (bit_xor m k))
+    ap₂ bit_xor (low_first x m) (low_first y k) ∙ xor_block 1 m k x y hx hy
+    ∙ sym (low_first (bit_xor x y) (bit_xor m k))
 
 pub mask-of-sum : (s t : List Bool) → length s ≡ length t
     → mask_of_bits (add_bits s t) ≡ bit_xor (mask_of_bits s) (mask_of_bits t)

@@ -75,7 +75,8 @@ corrected (MaskDecoded.Correction P) e = refl
 corrected MaskDecoded.None e = absurd (omega arith)
 corrected (MaskDecoded.Refused refusal) e = absurd (not_done refusal e)
 
-uncorrected : (answer : MaskDecoded) → (correction_answer answer).answer.number ≡ none_number → answer ≡ MaskDecoded.None
+uncorrected : (answer : MaskDecoded) → (correction_answer answer).answer.number ≡ none_number
+    → answer ≡ MaskDecoded.None
 uncorrected (MaskDecoded.Correction P) e = absurd (omega arith)
 uncorrected MaskDecoded.None e = refl
 uncorrected (MaskDecoded.Refused refusal) e = absurd (not_none refusal e)

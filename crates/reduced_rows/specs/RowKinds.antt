@@ -8,4 +8,5 @@ use Rattle.reduced_rows.specs.declared.Kind.{Kind}
 -- A phase of i or -i, which rows that commute never leave, counts as +.
 unfoldable pub kind_of : Pauli → Kind
 kind_of Q =
-    cond (same_masks Q identity) (cond (same_pauli minus_identity Q) Kind.MinusIdentity Kind.PlusIdentity) Kind.Independent
+    cond (same_masks Q identity) (cond (same_pauli minus_identity Q) Kind.MinusIdentity Kind.PlusIdentity)
+    Kind.Independent

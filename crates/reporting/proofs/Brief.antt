@@ -12,10 +12,12 @@ use Rattle.letters.specs.Lists.{bytes}
 use Rattle.code_record.specs.declared.Code.{Code}
 use Rattle.refusals.specs.declared.ErrorPair.{ErrorPair}
 use Rattle.refusals.specs.declared.Refusal.{Refusal}
-use Rattle.code_record.specs.Record.{most_qubits, generators_at, pair_count, logical_count, logicals_at, claim_at, Sized}
+use Rattle.code_record.specs.Record.{most_qubits, generators_at, pair_count, logical_count, logicals_at, claim_at}
+use Rattle.code_record.specs.Record.{Sized}
 use Rattle.refusals.specs.Refusals.{values}
 use Rattle.code_record.proofs.Limits.{Limits}
-use Rattle.sheet.proofs.Lengths.{length-line, length-letter_text, length-generators, length-logical_xs, length-logical_zs}
+use Rattle.sheet.proofs.Lengths.{length-line, length-letter_text, length-generators, length-logical_xs}
+use Rattle.sheet.proofs.Lengths.{length-logical_zs}
 use Rattle.sheet.proofs.Numbers.{IfRefused}
 use Rattle.admission.specs.Admission.{code_fault}
 use Rattle.admission.specs.Distance.{refuting_pair}

@@ -19,7 +19,8 @@ use Rattle.code_record.specs.Record.{between}
 use Rattle.code_record.proofs.Limits.{between-bounds}
 use Rattle.sheet.specs.Reader.{SheetRead, stop, done, begins, is_line, line_of, read_line, read_number, read_row}
 use Rattle.sheet.specs.Reader.{read_letters}
-use Rattle.sheet.specs.Reader.{in_range, qubit_line, distance_line, row_line, rows_up_to, counted_generators, generator_lines}
+use Rattle.sheet.specs.Reader.{in_range, qubit_line, distance_line, row_line, rows_up_to, counted_generators}
+use Rattle.sheet.specs.Reader.{generator_lines}
 use Rattle.sheet.specs.Reader.{counted_logicals, logical_lines, claim_line, lines_after, sheet_lines, read_lines}
 use Rattle.sheet.proofs.Outcome.{Outcome, gets, stops, continue-outcome, cond-outcome, got_or-outcome}
 use Rattle.reporting.proofs.Brief.{last_line, Brief, brief}

@@ -86,7 +86,8 @@ letter_at_other first other j = first ∷ replicate j I ++ other ∷ replicate (
 
 code24 : Code
 code24 =
-    code_of 24 1 (signed_row Minus (replicate 24 Z) ∷ []) (map (λ j. signed_row Plus (letter_at_other X X j)) (range 0 23))
+    code_of 24 1 (signed_row Minus (replicate 24 Z) ∷ []) (map (λ j. signed_row Plus (letter_at_other X X j))
+    (range 0 23))
     (map (λ j. signed_row Plus (letter_at_other I Z j)) (range 0 23)) (of_letters (Z ∷ replicate 23 I))
 
 report24 :

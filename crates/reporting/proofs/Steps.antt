@@ -115,7 +115,8 @@ module _ (c : Code) where
       took : s ≡ syndrome_line_text bits ++ rest
       took = (what_was-got (syndrome-line-outcome at s) e).bytes_read
 
-      go : (s : List ℕ) → length s ≡ length (syndrome_line_text bits) + length rest → syndrome_line c at s ≡ got bits rest
+      go : (s : List ℕ) → length s ≡ length (syndrome_line_text bits) + length rest
+          → syndrome_line c at s ≡ got bits rest
           → lines_from at s ≡ before (bits ∷ []) (lines_from (at + 1) rest)
       go [] count e = absurd (omega (arith, length-syndrome-line bits))
       go (b ∷ s) count e =

@@ -106,7 +106,8 @@ module _ (n at : ℕ) (s : List ℕ) where
       ∙ ap (λ o. got_or (Refusal.Form at) o (drop (n + 4) s))
       (ap (signed (read_sign (get_or s 2 0))) e ∙ bind-none (read_sign (get_or s 2 0)))
 
-  pub row-no-sign : read_sign (get_or s 2 0) ≡ none → within_qubits n at (row_behind_key n at) s ≡ stop (Refusal.Form at)
+  pub row-no-sign : read_sign (get_or s 2 0) ≡ none → within_qubits n at (row_behind_key n at) s
+      ≡ stop (Refusal.Form at)
   unfolding got_or bind
   row-no-sign e =
       row-line-is ∙ ap (λ sign. got_or (Refusal.Form at) (signed sign (letters 3 n s)) (drop (n + 4) s)) e

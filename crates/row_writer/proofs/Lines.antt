@@ -43,7 +43,8 @@ pub front-laid : (front buffer part : List ℕ) (n : ℕ) (P : Pauli) → length
     → part ≡ laid (letters_end n P) (lent (length front) (sets buffer 0 front))
     → back (length front) (sets buffer 0 front) part ≡ laid (front ++ letters_end n P) buffer
 front-laid front buffer part n P room q =
-    back-laid front (letters_end n P) buffer (sets buffer 0 front) part (length front) (sets-laid front buffer room) refl
+    back-laid front (letters_end n P) buffer (sets buffer 0 front) part (length front) (sets-laid front buffer room)
+    refl
     q
 
 pub row-text : (key n : ℕ) (P : Pauli) → row_line_text key n P ≡ key ∷ 61 ∷ sign_byte (sign_of P) ∷ letters_end n P

@@ -99,7 +99,8 @@ impl Logicals {
 // than a sheet may have are off their form.
 pub fn logical_lines(s: &[u8], n: usize, r: usize) -> Logicals
     ensures answer_bound { before result.answer ≤ 2 * row_room }
-    ensures answers_logicals { AnswersLogicals s.now result (λ at. within_qubits n at (pair_lines (pair_count n r) n at)) }
+    ensures answers_logicals { AnswersLogicals s.now result
+        (λ at. within_qubits n at (pair_lines (pair_count n r) n at)) }
 {
     if MOST_QUBITS < n {
         return Logicals::off_form(0);

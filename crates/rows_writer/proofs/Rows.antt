@@ -51,7 +51,8 @@ module _ (key n : ℕ) where
         ≡ rows_text key n (take (place + 1) rows)
     first_more place h =
         sym (rows_more (take place rows) _)
-        ∙ ap (rows_text key n) (sym (take-suc rows place identity h) ∙ ap (λ (k : ℕ). take k rows) (sym (add-one place)))
+        ∙ ap (rows_text key n) (sym (take-suc rows place identity h)
+        ∙ ap (λ (k : ℕ). take k rows) (sym (add-one place)))
 
     length-first : (count : ℕ) → count ≤ length rows → length (rows_text key n (take count rows)) ≡ count * (n + 4)
     length-first count h =

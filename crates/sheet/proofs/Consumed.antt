@@ -56,7 +56,8 @@ in-range-outcome {Got} low high m refusal s h r = go (between low high m) refl
 
 number-line-outcome : (key : String) (width low high : ℕ) (form range : Refusal) (s : List ℕ) → OfForm form
     → OfForm range
-    → Outcome (NumberLine key low high s) OfForm ((read_line key width read_number form and_then in_range low high range) s)
+    → Outcome (NumberLine key low high s) OfForm ((read_line key width read_number form and_then in_range low high
+    range) s)
 number-line-outcome key width low high form range s hf hr =
     let back : (v : List ℕ) (m : ℕ) → length v ≡ width → read_number v ≡ some m → Unit {0} × (v ≡ decimal m) =
     λ v m h e. (tt, number-written v m e) in

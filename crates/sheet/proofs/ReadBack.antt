@@ -40,7 +40,8 @@ module _
   }
 
   sheet-lawful : ReadIsLawful sheet-read
-  unfolding code_of within_limits phases_modulo4 logical_count pair_count most_generators generators_at logicals_at claim_at
+  unfolding code_of within_limits phases_modulo4 logical_count pair_count most_generators generators_at logicals_at
+      claim_at
   sheet-lawful = record {
     sized = record {
       room_g = length-filled row_room gs (omega arith);

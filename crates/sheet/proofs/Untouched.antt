@@ -28,7 +28,8 @@ module _ {A : Type 0} (refusalOf : A → Option Refusal) (buffer : List ℕ) whe
 pub written-leaves : (fault : Option Refusal) (text buffer : List ℕ)
     → RefusalLeaves written_refusal buffer (written fault text buffer)
 unfolding written written_refusal
-written-leaves fault text buffer = guarded-leaves written_refusal buffer _ _ (answer-leaves written_refusal buffer _ refl)
+written-leaves fault text buffer = guarded-leaves written_refusal buffer _ _
+    (answer-leaves written_refusal buffer _ refl)
 
 pub writer-refusals-leave : WriterRefusalsLeave
 unfolding write_sheet

@@ -17,7 +17,8 @@ use Rattle.code_record.specs.declared.Code.{Code}
 use Rattle.refusals.specs.declared.Refusal.{Refusal}
 use Rattle.code_record.specs.Record.{row_room, most_qubits, most_distance, longest_input}
 use Rattle.code_record.specs.Record.{most_generators, pair_count, logical_count, generators_at, logicals_at, claim_at}
-use Rattle.code_record.specs.Record.{first_generator_at, code_of, generators, logical_xs, logical_zs, is_row, is_claim, Sized}
+use Rattle.code_record.specs.Record.{first_generator_at, code_of, generators, logical_xs, logical_zs, is_row, is_claim}
+use Rattle.code_record.specs.Record.{Sized}
 use Rattle.code_record.proofs.Filled.{filled-returns}
 use Rattle.code_record.proofs.Limits.{Limits, limits, all_cons, bounds-between}
 use Rattle.sheet.specs.Reader.{got, done, continue, begins, read_number, read_letters, read_row, in_range}
@@ -74,7 +75,8 @@ row-line-returns key n at P rest h = line-returns key (n + 1) read_row _ _ rest 
 claim-line-returns : (n at : ℕ) (P : Pauli) (rest : List ℕ) → is_claim n P ≡ true
     → claim_line n at (line "w=" (letter_text n P) ++ rest) ≡ got (modulo4 P) rest
 unfolding claim_line
-claim-line-returns n at P rest h = line-returns "w=" n read_letters _ _ rest _ (length-letter_text n P) (claim-read n P h)
+claim-line-returns n at P rest h = line-returns "w=" n read_letters _ _ rest _ (length-letter_text n P)
+    (claim-read n P h)
 
 -- Rows are read back, where as many were written as are read, or what stands behind them does not begin with their key.
 rows-return : (most : ℕ) (key : String) (n at : ℕ) (rows : List Pauli) (rest : List ℕ) → all_of (is_row n) rows ≡ true

@@ -1,7 +1,8 @@
 -- The sheet as a function from bytes to an answer.
 -- RULES, "The sheet": the reader of each line gets what is behind the line feed of the line before. A line off its form
 -- ends the reading, and so does input that ends before a line feed.
-use Rattle.std.specs.Prelude.{Bool, true, false, cond, ◌&&◌, ◌||◌, ℕ, zero, suc, ◌+◌, ◌-◌, ◌*◌, eqb, ltb, length, take, drop, get_or}
+use Rattle.std.specs.Prelude.{Bool, true, false, cond, ◌&&◌, ◌||◌, ℕ, zero, suc, ◌+◌, ◌-◌, ◌*◌, eqb, ltb, length, take}
+use Rattle.std.specs.Prelude.{drop, get_or}
 use mathlib.Core.List.{List, [], ◌∷◌, foldl}
 use Rattle.std.proofs.Math.Option.{Option, none, some, map, bind}
 use Prim.Native.Char.{code}
@@ -98,7 +99,8 @@ qubit_digits s = cond (eqb (get_or s 3 0) line_feed) 1 2
 -- RULES, "The sheet": the n line has one or two digits, the first not 0. 2 at line 1, then 3 where n is not 2 to 24.
 unfoldable pub qubit_line : Reader ℕ
 qubit_line s =
-    (read_line "n=" (qubit_digits s) read_number (Refusal.Form 1) and_then in_range 2 most_qubits (Refusal.QubitCount 1)) s
+    (read_line "n=" (qubit_digits s) read_number (Refusal.Form 1)
+    and_then in_range 2 most_qubits (Refusal.QubitCount 1)) s
 
 -- RULES, "The sheet": the d line has one digit, not 0. 2 at line 2, then 4 where d is not 1 to 7.
 unfoldable pub distance_line : Reader ℕ

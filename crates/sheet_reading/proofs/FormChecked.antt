@@ -13,7 +13,8 @@ use Rattle.refusals.specs.declared.Lines.{Lines}
 use Rattle.refusals.specs.declared.Refusal.{Refusal}
 use Rattle.refusals.specs.Refusals.{◌then◌}
 use Rattle.code_record.specs.Record.{empty_beside}
-use Rattle.sheet.specs.Reader.{Parsed, SheetRead, got, stop, read_lines, read_form, answered, lines_reading, form_reading}
+use Rattle.sheet.specs.Reader.{Parsed, SheetRead, got, stop, read_lines, read_form, answered, lines_reading}
+use Rattle.sheet.specs.Reader.{form_reading}
 use Rattle.sheet.specs.Reader.{behind}
 use Rattle.sheet.proofs.ReadBack.{reads-are-lawful, read-within as rest-within}
 use Rattle.sheet_end.proofs.Form.{claim-near, form-refused as refused-form, form-behind, form-whole}
@@ -52,7 +53,8 @@ module _ (s : List ℕ) (form : LinesReading) where
       absurd (let z : ◌≡◌ {A = ℕ} 0 1 = cc (ap (λ x. x.answer) e) in omega arith)
 
   module _ (known : form ≡ form_reading s) where
-    pub form-refused : {refusal : Refusal} → form.answer ≡ Lines.Refused refusal → refused_reading refusal ≡ read_sheet s
+    pub form-refused : {refusal : Refusal} → form.answer ≡ Lines.Refused refusal
+        → refused_reading refusal ≡ read_sheet s
     unfolding form_reading read_sheet
     form-refused told = refused-by (read_form s) known told
 

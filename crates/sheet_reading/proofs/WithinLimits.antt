@@ -10,7 +10,8 @@ use Rattle.code_record.specs.Record.{limits_fault, within_limits}
 use Rattle.refusals.specs.declared.Lines.{Lines}
 use Rattle.refusals.specs.declared.Refusal.{Refusal}
 use Rattle.refusals.specs.Refusals.{refuse_if}
-use Rattle.sheet.specs.Reader.{Parsed, SheetRead, got, stop, read_lines, read_form, answered, lines_reading, form_reading}
+use Rattle.sheet.specs.Reader.{Parsed, SheetRead, got, stop, read_lines, read_form, answered, lines_reading}
+use Rattle.sheet.specs.Reader.{form_reading}
 use Rattle.sheet.proofs.ReadBack.{reads-are-lawful}
 use Rattle.admission.specs.declared.Admission.{Admission}
 use Rattle.admission.specs.Admission.{code_fault, refused_reading, admitted, reading_of, checked, read_sheet}

@@ -84,13 +84,15 @@ xor-bit a b j = ap (λ (x : ℕ). x % 2) (xor_shr a b j) ∙ xor_mod (a / 2 ^ j)
   where
     low : (x y : ℕ) → bit_xor (x % 2) (y % 2) ≡ (x % 2 + y % 2) % 2
     low x y =
-        digit (λ (u : ℕ). bit_xor u (y % 2) ≡ (u + y % 2) % 2) (digit (λ (v : ℕ). bit_xor 0 v ≡ (0 + v) % 2) refl refl y)
+        digit (λ (u : ℕ). bit_xor u (y % 2) ≡ (u + y % 2) % 2)
+        (digit (λ (v : ℕ). bit_xor 0 v ≡ (0 + v) % 2) refl refl y)
         (digit (λ (v : ℕ). bit_xor 1 v ≡ (1 + v) % 2) refl refl y) x
 
 -- A mask with no one among its bits is 0.
 zero-mask : (n m : ℕ) → m < 2 ^ n → ((j : ℕ) → j < n → m / 2 ^ j % 2 ≡ 0) → m ≡ 0
 zero-mask n m h zeros =
-    bits-determine n m 0 h (pow_pos n) (ext_get_or 0 (bits n m) (bits n 0) (length-bits n m ∙ sym (length-bits n 0)) same)
+    bits-determine n m 0 h (pow_pos n) (ext_get_or 0 (bits n m) (bits n 0) (length-bits n m
+    ∙ sym (length-bits n 0)) same)
   where
     same : (j : ℕ) → j < length (bits n m) → get_or (bits n m) j 0 ≡ get_or (bits n 0) j 0
     same j l =
@@ -222,7 +224,12 @@ module _ (n : ℕ) where
 
   pub pivot-column : (P : Pauli) → pivot n P < 2 * n → column n P (pivot n P) ≡ 1
   unfolding pivot column
-  pivot-column P h = omega (arith, first_one_stands (columns n P) (omega (arith, length-columns P)), column-lt P (pivot n P))
+  pivot-column P h = omega (
+    arith,
+    first_one_stands (columns n P) (omega (arith, length-columns P)),
+    column-lt P
+        (pivot n P),
+  )
 
   pub before-pivot : (P : Pauli) (c : ℕ) → c < pivot n P → column n P c ≡ 0
   unfolding pivot column

@@ -197,10 +197,16 @@ product-tested : (rows : List Pauli) (P X : Pauli) → modulo4 (product P P) ≡
     → (any_of (same_pauli X) (map (product P) (group rows)) ≡ true) ↔ Generated whole rows (product P X)
 product-tested rows P X square =
     rw any-map (Iff.trans (group-some (λ S. same_pauli X (product P S)) rows) (
-      λ (s, h).
-          (s, brought_l whole P (product_of s rows) X square (sym ((same-pauli X (product P (product_of s rows))).0 h))),
-      λ (s, e).
-          (s, (same-pauli X (product P (product_of s rows))).1 (brought_l whole P X (product_of s rows) square (sym e))),
+      λ (s, h). (
+        s,
+        brought_l whole P (product_of s rows) X square
+            (sym ((same-pauli X (product P (product_of s rows))).0 h)),
+      ),
+      λ (s, e). (
+        s,
+        (same-pauli X (product P (product_of s rows))).1
+            (brought_l whole P X (product_of s rows) square (sym e)),
+      ),
     ))
 
 fault-of-tests : (x y : Bool) (minus plus : Refusal)

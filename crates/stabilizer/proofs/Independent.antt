@@ -63,7 +63,8 @@ one_more v P (b ∷ selection) (g ∷ rows) = step b (one_more v P selection row
     step false (inr (S, x, e)) = inr (S, generated-skip v g rows S x, e)
 
 -- A Pauli whose product with a member is I, phase aside, is a member, phase aside.
-generated-aside : (rows : List Pauli) (P S : Pauli) → Generated whole rows S → masks_of (product S P) ≡ masks_of identity
+generated-aside : (rows : List Pauli) (P S : Pauli) → Generated whole rows S
+    → masks_of (product S P) ≡ masks_of identity
     → Generated phase_aside rows P
 generated-aside rows P S (selection, e) one =
     let same = brought-r phase_aside P S identity (square-aside S) (commute_aside P S ∙ one) in
@@ -82,7 +83,8 @@ module _ (n : ℕ) where
   unfolding canonical_generators
   canonical-length-le =
       from_last (λ rows. length (canonical_generators n rows) ≤ length rows) (omega arith)
-      (λ rows P few. rw (canonical-more, length-append) (omega (arith, added-length-le (canonical_generators n rows) P)))
+      (λ rows P few. rw (canonical-more, length-append) (omega
+      (arith, added-length-le (canonical_generators n rows) P)))
 
   -- ---- independent rows
 

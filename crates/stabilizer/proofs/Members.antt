@@ -101,8 +101,11 @@ module _ (v : View) (test : Pauli → Pauli → Bool)
 
   listed : (rows : List Pauli) (P : Pauli) → (any_of (test P) (group rows) ≡ true) ↔ Generated v rows P
   listed rows P =
-      Iff.trans (group-some (test P) rows)
-      (λ (s, h). (s, sym ((decides P (product_of s rows)).0 h)), λ (s, e). (s, (decides P (product_of s rows)).1 (sym e)))
+      Iff.trans (group-some (test P) rows) (
+        λ (s, h). (s, sym ((decides P (product_of s rows)).0 h)),
+        λ (s, e).
+            (s, (decides P (product_of s rows)).1 (sym e)),
+      )
 
 pub in_group : (rows : List Pauli) (P : Pauli) → InGroup rows P ↔ Generated whole rows P
 unfolding InGroup

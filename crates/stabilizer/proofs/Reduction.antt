@@ -180,7 +180,8 @@ module _ (v : View) (n : ℕ) where
               (λ none g. g)
 
   -- A row of which more than a phase is left is added, and one of which I is left adds nothing.
-  pub added-same : (hs : List Pauli) (P : Pauli) → Closed v (hs ++ P ∷ []) → same_masks (reduced n hs P) identity ≡ false
+  pub added-same : (hs : List Pauli) (P : Pauli) → Closed v (hs ++ P ∷ [])
+      → same_masks (reduced n hs P) identity ≡ false
       → (R : Pauli)
       → Generated v (hs ++ P ∷ []) R ↔ Generated v (added n hs P) R
   unfolding added
@@ -201,7 +202,8 @@ module _ (v : View) (n : ℕ) where
 -- Phase aside all rows commute, and all squares are I.
 closed-aside : (rows : List Pauli) → Closed phase_aside rows
 closed-aside rows = (
-  all-every (λ g. All (Commute phase_aside g) rows) (λ g. all-every (Commute phase_aside g) (commute_aside g) rows) rows,
+  all-every (λ g. All (Commute phase_aside g) rows) (λ g. all-every (Commute phase_aside g) (commute_aside g) rows)
+      rows,
   all-every (λ g. phase_aside.of (product g g) ≡ phase_aside.of identity) square-aside rows,
 )
 

@@ -76,7 +76,8 @@ module _ (n : ℕ) where
   unfolding is_row
   row-parts P h = both (on_qubits n P) (is_signed_row P) h
 
-  row-product : (P Q : Pauli) → is_row n P ≡ true → is_row n Q ≡ true → Commute whole P Q → is_row n (product P Q) ≡ true
+  row-product : (P Q : Pauli) → is_row n P ≡ true → is_row n Q ≡ true → Commute whole P Q
+      → is_row n (product P Q) ≡ true
   unfolding is_row
   row-product P Q hP hQ c =
       let (qP, sP) = row-parts P hP in

@@ -18,7 +18,8 @@ use Rattle.code_record.specs.declared.Code.{Code}
 use Rattle.refusals.specs.declared.Family.{Family}
 use Rattle.refusals.specs.declared.Refusal.{Refusal}
 use Rattle.code_record.specs.Record.{is_row, on_qubits, generators}
-use Rattle.sheet.proofs.Numbers.{IfRefused, law-of-refusal, refuse_if-lawful, then-lawful, limits-lawful, written-lawful}
+use Rattle.sheet.proofs.Numbers.{IfRefused, law-of-refusal, refuse_if-lawful, then-lawful, limits-lawful}
+use Rattle.sheet.proofs.Numbers.{written-lawful}
 use Rattle.stabilizer.specs.Canonical.{reduced, reduces_to_identity, canonical_generators, canonical_text}
 use Rattle.stabilizer.specs.Canonical.{write_canonical}
 use Rattle.stabilizer.specs.Checks.{minus_identity, first_fault, clash, dependence, generator_fault, group_fault}
@@ -183,6 +184,7 @@ pub canonical-refusal-numbers : CanonicalRefusalNumbers
 unfolding write_canonical any_of
 canonical-refusal-numbers = record {
   call = λ c buffer. law-of-refusal
-      (written-lawful (canonical_text c) buffer (group-lawful c (λ at f. refl) (λ at f. refl) (λ at f. refl) refl) refl);
+      (written-lawful (canonical_text c) buffer (group-lawful c (λ at f. refl) (λ at f. refl) (λ at f. refl) refl)
+      refl);
   checks = λ c. law-of-refusal (group-lawful c (λ at f. refl) (λ at f. refl) (λ at f. refl) refl);
 }

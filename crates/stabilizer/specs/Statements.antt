@@ -34,7 +34,8 @@ Commuting rows = (i j : ℕ) → i < length rows → j < length rows
 -- a row the square is -I.)
 pub record CommutingRowsAreAGroup : Type 0 where
   pub rows : (rows : List Pauli) (i : ℕ) → i < length rows → InGroup rows (get_or rows i identity)
-  pub products : (rows : List Pauli) → all_of is_signed_row rows ≡ true → Commuting rows → (P Q : Pauli) → InGroup rows P
+  pub products : (rows : List Pauli) → all_of is_signed_row rows ≡ true → Commuting rows → (P Q : Pauli)
+      → InGroup rows P
       → InGroup rows Q
       → InGroup rows (product P Q)
 
@@ -78,7 +79,8 @@ pub record StabilizerRows (n : ℕ) (rows : List Pauli) : Type 0 where
 -- Rows that pass 6 to 8 are such rows.
 abbrev pub FaultlessRowsStabilize : Type 0
 FaultlessRowsStabilize =
-    (n at : ℕ) (rows : List Pauli) → all_of (is_row n) rows ≡ true → generator_fault at rows ≡ none → StabilizerRows n rows
+    (n at : ℕ) (rows : List Pauli) → all_of (is_row n) rows ≡ true → generator_fault at rows ≡ none
+    → StabilizerRows n rows
 
 -- One signed row of their group at most has given masks, and the sign found is its sign; there is one exactly where
 -- some selection's product has these masks.

@@ -51,7 +51,8 @@ module _ (c : Code) where
     characters = take c.r (drop 2 s)
 
     line : (m : ℕ) → mask_line c.r s ≡ SyndromeRead.Mask m
-        → (bits : List Bool) × (syndrome_line c at s ≡ got bits (drop (syndrome_length c.r) s)) × (m ≡ mask_of_bits bits)
+        → (bits : List Bool) × (syndrome_line c at s ≡ got bits (drop (syndrome_length c.r) s))
+        × (m ≡ mask_of_bits bits)
     unfolding mask_line syndrome_length syndrome_line line_of got_or bytes
     line m e = by-line (is_line (bytes "s=") c.r s) refl e
       where

@@ -1,5 +1,6 @@
 -- A filter of words: the first place of a word for each slot.
-use Rattle.std.specs.Prelude.{Bool, true, List, [], ◌∷◌, ℕ, zero, suc, ◌/◌, ◌%◌, ◌<◌, ◌≤◌, eqb, ltb, length, get_or, set, replicate}
+use Rattle.std.specs.Prelude.{Bool, true, List, [], ◌∷◌, ℕ, zero, suc, ◌/◌, ◌%◌, ◌<◌, ◌≤◌, eqb, ltb, length, get_or}
+use Rattle.std.specs.Prelude.{set, replicate}
 use Rattle.std.specs.Int.Bits.{bit_xor}
 
 -- The slot of a word, below 4,096.

@@ -33,7 +33,8 @@ by_mask : (c : tie.After-syndrome_mask) → let code = (start c.before.before.be
 unfolding generators
 by_mask c = ap (λ m. not (eqb m 0)) (sym c.syndrome_mask.ensures)
 
-undetected : (c : tie.Else-syndrome_mask-ne0) → let code = (start c.before.before.before.before.before.before).args.code in
+undetected : (c : tie.Else-syndrome_mask-ne0) → let code = (start c.before.before.before.before.before.before).args.code
+    in
     not (eqb (syndrome_mask (generators code) code.w) 0) ≡ false
 undetected c = by_mask c.before ∙ ap not (eq-eqb c.syndrome_mask.result 0 c.if-syndrome_mask-ne0.false)
 

@@ -20,7 +20,8 @@ abbrev start : tie.After-eliminate_rows-generators → tie.Start
 start c = c.before.before.before.before
 
 -- The checks of its generators are those of the record.
-checked : (c : tie.After-eliminate_rows-generators) → c.eliminate_rows-generators.result ≡ elimination (start c).args.code
+checked : (c : tie.After-eliminate_rows-generators) → c.eliminate_rows-generators.result
+    ≡ elimination (start c).args.code
 checked c =
     let test = c.before.before in
     c.eliminate_rows-generators.ensures

@@ -8,4 +8,5 @@ pub returns-then-zeros-lt32 : goal.returns-then-zeros-lt32
 returns-then-zeros-lt32 c = let a = c.args in one-tested a.n a.m (search rules) (omega (arith, c.if-zeros-lt32.true))
 
 pub returns-else-zeros-lt32 : goal.returns-else-zeros-lt32
-returns-else-zeros-lt32 c = let a = c.args in no-one-tested a.n a.m (search rules) (λ few. omega (arith, c.if-zeros-lt32.false))
+returns-else-zeros-lt32 c = let a = c.args in no-one-tested a.n a.m (search rules)
+    (λ few. omega (arith, c.if-zeros-lt32.false))

@@ -74,7 +74,8 @@ module _ (c : tie.At-loop-earlier invariant-loop2 decreases-loop2 invariant-loop
       ∙ at.loop-place.invariant
 
 -- ---- behind a test against an earlier row
-abbrev turn : tie.After-commutes invariant-loop2 decreases-loop2 invariant-loop decreases-loop → tie.In-loop-earlier invariant-loop2 decreases-loop2 invariant-loop decreases-loop
+abbrev turn : tie.After-commutes invariant-loop2 decreases-loop2 invariant-loop decreases-loop
+    → tie.In-loop-earlier invariant-loop2 decreases-loop2 invariant-loop decreases-loop
 turn c = c.before.before
 
 tested : (c : tie.After-commutes invariant-loop2 decreases-loop2 invariant-loop decreases-loop)
@@ -104,13 +105,15 @@ returns c =
     let t = turn c.before in
     let loop = t.before in
     here loop
-    (tried-passes loop.loop-earlier.invariant (room (s loop)) t.loop-earlier-test.true (tested c.before ∙ c.if-not-commutes.true-raw))
+    (tried-passes loop.loop-earlier.invariant (room (s loop)) t.loop-earlier-test.true (tested c.before
+    ∙ c.if-not-commutes.true-raw))
 
 loop2-again : tie.Need-loop-earlier-preserved invariant-loop2 decreases-loop2 invariant-loop decreases-loop
 loop2-again c =
     let t = turn c.before in
     let loop = t.before in
-    tried-more loop.loop-earlier.invariant (room (s loop)) t.loop-earlier-test.true (tested c.before ∙ c.if-not-commutes.false-raw)
+    tried-more loop.loop-earlier.invariant (room (s loop)) t.loop-earlier-test.true (tested c.before
+    ∙ c.if-not-commutes.false-raw)
 
 loop-again : tie.Need-loop-place-preserved invariant-loop2 decreases-loop2 invariant-loop decreases-loop
 unfolding refuse_if ◌then◌

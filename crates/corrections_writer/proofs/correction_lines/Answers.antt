@@ -19,7 +19,8 @@ use Rattle.corrections_writer.proofs.Answered.{answered-none, answered-off, answ
 use Rattle.corrections_writer.proofs.Answered.{next-room, next_fits, answered-more}
 use Rattle.corrections_writer.proofs.correction_lines.Goals as goal
 
--- Each answer reads the line at the place as `told`. Its correction's line has `room`, and is as long as `counted` says.
+-- Each answer reads the line at the place as `told`. Its correction's line has `room`, and is as long as `counted`
+-- says.
 pub loop-place-init : goal.loop-place-init
 loop-place-init c = let a = c.args in answered-none a.words a.t a.r a.syndromes.now a.out.now
 

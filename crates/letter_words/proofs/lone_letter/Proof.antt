@@ -64,7 +64,8 @@ module _ (at : Loop) where
   unfolding word_qubits
   found some k small before fitting =
       found-there (record_of at) want are (here at) k (omega (arith, at.loop-qubit.invariant.0)) small
-      (subst (λ (q : ℕ). NoneFrom (sets at) (word_qubits (record_of at)) q) (omega arith) at.loop-qubit.invariant.1) before
+      (subst (λ (q : ℕ). NoneFrom (sets at) (word_qubits (record_of at)) q) (omega arith) at.loop-qubit.invariant.1)
+      before
       fitting
 
   -- A bit is moved to its qubit.

@@ -47,17 +47,21 @@ decreases-loop n r g qubits count words₀ qubit₀ at₀ words qubit at = qubit
 abbrev code : tie.Start invariant-loop2 decreases-loop2 invariant-loop decreases-loop → Code
 code start = with_generators start.args.n start.args.r start.args.g
 
-room : (start : tie.Start invariant-loop2 decreases-loop2 invariant-loop decreases-loop) → length start.args.g ≡ row_room
+room : (start : tie.Start invariant-loop2 decreases-loop2 invariant-loop decreases-loop)
+    → length start.args.g ≡ row_room
 room start = search rules
 
-abbrev start : tie.At-loop-place invariant-loop2 decreases-loop2 invariant-loop decreases-loop → tie.Start invariant-loop2 decreases-loop2 invariant-loop decreases-loop
+abbrev start : tie.At-loop-place invariant-loop2 decreases-loop2 invariant-loop decreases-loop
+    → tie.Start invariant-loop2 decreases-loop2 invariant-loop decreases-loop
 start at = at.before.before.before.before.before
 
-small : (c : tie.In-loop-place invariant-loop2 decreases-loop2 invariant-loop decreases-loop) → c.loop-place.both ≤ 4294967297 * (2 ^ 31 - 1)
+small : (c : tie.In-loop-place invariant-loop2 decreases-loop2 invariant-loop decreases-loop)
+    → c.loop-place.both ≤ 4294967297 * (2 ^ 31 - 1)
 small c = both_small c.loop-place.invariant (room (start c.before)) c.loop-place-test.true
 
 -- ---- all generators
-all-passed : (c : tie.After-loop-place invariant-loop2 decreases-loop2 invariant-loop decreases-loop) → c.loop-place.place ≡ 0
+all-passed : (c : tie.After-loop-place invariant-loop2 decreases-loop2 invariant-loop decreases-loop)
+    → c.loop-place.place ≡ 0
 all-passed c = omega (arith, c.loop-place-test.false)
 
 -- ---- the needs

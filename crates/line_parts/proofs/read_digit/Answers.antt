@@ -8,7 +8,10 @@ use Rattle.line_parts.proofs.read_digit.Goals.{then-c-lt48-via-then-c-lt48, then
 pub returns-then-c-lt48 : goal.returns-then-c-lt48
 returns-then-c-lt48 c =
     sym (not-a-digit c.args.c
-    (elim c.then-c-lt48.branch [ then-c-lt48-via-then-c-lt48 w ↦ inl w.if-c-lt48.true | then-c-lt48-via-else-c-lt48+then-c-gt57 w ↦ inr w.if-c-gt57.true ]))
+    (elim c.then-c-lt48.branch [
+      | then-c-lt48-via-then-c-lt48 w ↦ inl w.if-c-lt48.true
+      | then-c-lt48-via-else-c-lt48+then-c-gt57 w ↦ inr w.if-c-gt57.true
+    ]))
 
 pub returns : goal.returns
 returns c = sym (a-digit c.args.c c.if-c-lt48.false c.if-c-gt57.false)

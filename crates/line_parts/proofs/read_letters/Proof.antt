@@ -21,7 +21,8 @@ use Rattle.line_parts.proofs.read_letters.Statement.{statement}
 use Rattle.line_parts.proofs.read_letters.Tie as tie
 
 abbrev invariant-loop : tie.invariant-loop-place
-invariant-loop word a₀ b₀ place₀ a b place = (place ≤ length word) × (read_letters (drop place word) ≡ some (row_of Plus a b))
+invariant-loop word a₀ b₀ place₀ a b place = (place ≤ length word)
+    × (read_letters (drop place word) ≡ some (row_of Plus a b))
 
 abbrev decreases-loop : tie.decreases-loop-place
 decreases-loop word a₀ b₀ place₀ a b place = place

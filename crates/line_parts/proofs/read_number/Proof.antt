@@ -32,7 +32,8 @@ second_is : (c : tie.In-Got-read_digit) → read_digit (get_or (word_at c.before
 second_is c = sym c.read_digit-2.ensures ∙ ap number_in c.in-Got-read_digit.is
 
 -- what the definition gives, at a word that is not too long
-gives : (c : tie.After-read_digit) {o : Option ℕ} → read_number (word c) ≡ o → o ≡ up_to most_digits read_number (word c)
+gives : (c : tie.After-read_digit) {o : Option ℕ} → read_number (word c) ≡ o
+    → o ≡ up_to most_digits read_number (word c)
 gives c e = sym (few_bytes most_digits read_number (word c) c.if-word-gt2.false ∙ e)
 
 returns : tie.Need-returns-then-word-gt2

@@ -103,7 +103,8 @@ returns-4 c =
     let line = c.before.before in
     let ten = line.before.before in
     let d = ten.before.before in
-    named d LogicalPairing line.generators_at-then-unpaired-pairs.ensures line.if-unpaired-pairs.true c.family_at-then-unpaired-pairs.ensures
+    named d LogicalPairing line.generators_at-then-unpaired-pairs.ensures line.if-unpaired-pairs.true
+    c.family_at-then-unpaired-pairs.ensures
     ∙ ten-told d ten.first_unpaired-unpaired.ensures
     ∙ none-detected ten.before
 

@@ -34,7 +34,8 @@ abbrev decreases-loop : tie.decreases-loop-place
 decreases-loop code pairs place₀ place = 2 * pairs - place
 
 -- ---- a generator
-abbrev at : tie.At-loop-row invariant-loop2 decreases-loop2 invariant-loop decreases-loop → tie.At-loop-place invariant-loop2 decreases-loop2 invariant-loop decreases-loop
+abbrev at : tie.At-loop-row invariant-loop2 decreases-loop2 invariant-loop decreases-loop
+    → tie.At-loop-place invariant-loop2 decreases-loop2 invariant-loop decreases-loop
 at c = c.before.before.before
 
 abbrev code : tie.At-loop-row invariant-loop2 decreases-loop2 invariant-loop decreases-loop → Code
@@ -68,7 +69,12 @@ loop2-holds c =
       record {
         known = k;
         within = inside;
-        row = elim c.if-place-pairs.branch [ then-place-pairs w ↦ w.p-is ∙ x-at k loop.place w.if-place-pairs.true | else-place-pairs w ↦ w.p-is ∙ z-at k loop.place w.if-place-pairs.false inside ];
+        row = elim c.if-place-pairs.branch [
+          | then-place-pairs w ↦ w.p-is
+              ∙ x-at k loop.place w.if-place-pairs.true
+          | else-place-pairs w ↦ w.p-is
+              ∙ z-at k loop.place w.if-place-pairs.false inside
+        ];
       },
       tried-none _ c.args.code.g _ (omega (arith, few)),
     )

@@ -37,7 +37,8 @@ abbrev decreases-loop : tie.decreases-loop-place
 decreases-loop code pairs xs place₀ place = 2 * xs - place
 
 -- ---- an earlier logical
-abbrev at : tie.At-loop-earlier invariant-loop2 decreases-loop2 invariant-loop decreases-loop → tie.At-loop-place invariant-loop2 decreases-loop2 invariant-loop decreases-loop
+abbrev at : tie.At-loop-earlier invariant-loop2 decreases-loop2 invariant-loop decreases-loop
+    → tie.At-loop-place invariant-loop2 decreases-loop2 invariant-loop decreases-loop
 at c = c.before.before.before
 
 module _ (c : tie.After-commutes invariant-loop2 decreases-loop2 invariant-loop decreases-loop) where
@@ -57,7 +58,12 @@ module _ (c : tie.After-commutes invariant-loop2 decreases-loop2 invariant-loop 
   row : c.if-earlier-xs.q ≡ get_or (logicals code) tried.loop-earlier.earlier identity
   row =
       let k = tried.loop-earlier.invariant.0.known in
-      elim c.if-earlier-xs.branch [ then-earlier-xs w ↦ w.q-is ∙ x-at k tried.loop-earlier.earlier w.if-earlier-xs.true | else-earlier-xs w ↦ w.q-is ∙ z-at k tried.loop-earlier.earlier w.if-earlier-xs.false inside ]
+      elim c.if-earlier-xs.branch [
+        | then-earlier-xs w ↦ w.q-is
+            ∙ x-at k tried.loop-earlier.earlier w.if-earlier-xs.true
+        | else-earlier-xs w ↦ w.q-is
+            ∙ z-at k tried.loop-earlier.earlier w.if-earlier-xs.false inside
+      ]
 
   here : {t : Bool} → let pairs = (at tried).pair_count-pairs.result in
       let place = (at tried).loop-place.place in
@@ -93,7 +99,12 @@ loop2-holds c =
       record {
         known = k;
         within = within;
-        row = elim c.if-place-xs.branch [ then-place-xs w ↦ w.p-is ∙ x-at k loop.place w.if-place-xs.true | else-place-xs w ↦ w.p-is ∙ z-at k loop.place w.if-place-xs.false within ];
+        row = elim c.if-place-xs.branch [
+          | then-place-xs w ↦ w.p-is
+              ∙ x-at k loop.place w.if-place-xs.true
+          | else-place-xs w ↦ w.p-is
+              ∙ z-at k loop.place w.if-place-xs.false within
+        ];
       },
       refl,
     )

@@ -60,7 +60,8 @@ loop-again c =
       λ rows known.
           let x = x-left rows qubit within (known qubit (omega arith)) in
           let z = z-left rows qubit within (known (qubit + 32) (omega arith)) in
-          three-more (left_at_once rows) w.qubits loop.at qubit (omega (arith, loop.invariant.1, c.loop-qubit-test.true))
+          three-more (left_at_once rows) w.qubits loop.at qubit
+          (omega (arith, loop.invariant.1, c.loop-qubit-test.true))
           (loop.invariant.2 rows known) stored (λ i table m. refl) x (y-left rows qubit within x z) z,
     )
 
@@ -71,7 +72,8 @@ returns c =
     let summed = c.before.before in
     let called = summed.before in
     let rows = rows_in called.args.rows in
-    all-filled (loop.invariant.2 rows summed.rows_by_pivot-sums.ensures) (omega (arith, loop.invariant.1, c.loop-qubit-test.false))
+    all-filled (loop.invariant.2 rows summed.rows_by_pivot-sums.ensures)
+    (omega (arith, loop.invariant.1, c.loop-qubit-test.false))
     ∙ ap (λ (u : LetterWords). value u (words_of (left_at_once rows) u.qubits)) called.syndrome_words-words.ensures
 
 pub logical_words_spec : {M : Type 1} → statement M

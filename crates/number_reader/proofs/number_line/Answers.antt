@@ -13,7 +13,8 @@ use Rattle.line_parts.proofs.LineValues.{value-few, value-within, line-no-value,
 use Rattle.number_reader.specs.Answers.{number_answer}
 use Rattle.number_reader.proofs.NumberLines.{number_read, range-refused, range-kept}
 use Rattle.number_reader.proofs.number_line.Goals as goal
-use Rattle.number_reader.proofs.number_line.Goals.{then-number-low-via-then-number-low, then-number-low-via-else-number-low+then-high-number}
+use Rattle.number_reader.proofs.number_line.Goals.{then-number-low-via-then-number-low}
+use Rattle.number_reader.proofs.number_line.Goals.{then-number-low-via-else-number-low+then-high-number}
 
 value-is : (digits : ℕ) (s : List ℕ) (r : Number)
     → number_in r ≡ value_from 2 digits (up_to most_digits read_number) s → digits ≤ most_digits
@@ -27,16 +28,21 @@ returns-in_default c =
     (sym
     (then-stop _
     (line-no-value _ _ _ _
-    (value-is c.args.digits c.args.s.now c.line_number.result c.line_number.ensures c.requires ∙ ap number_in c.in_default.is))))
+    (value-is c.args.digits c.args.s.now c.line_number.result c.line_number.ensures c.requires
+    ∙ ap number_in c.in_default.is))))
 
 pub returns-then-number-low : goal.returns-then-number-low
 returns-then-number-low c =
-    let value = value-is c.args.digits c.args.s.now c.line_number.result c.line_number.ensures c.requires ∙ ap number_in c.in-Got.is in
+    let value = value-is c.args.digits c.args.s.now c.line_number.result c.line_number.ensures c.requires
+    ∙ ap number_in c.in-Got.is in
     c.refused-then-number-low.ensures _
     ∙ ap (number_answer _)
     (sym
     (range-refused _ _ _ (line-value _ _ _ _ value)
-    (elim c.then-number-low.branch [ then-number-low-via-then-number-low w ↦ inl w.if-number-low.true | then-number-low-via-else-number-low+then-high-number w ↦ inr w.if-high-number.true ])))
+    (elim c.then-number-low.branch [
+      | then-number-low-via-then-number-low w ↦ inl w.if-number-low.true
+      | then-number-low-via-else-number-low+then-high-number w ↦ inr w.if-high-number.true
+    ])))
 
 pub returns : goal.returns
 returns c =

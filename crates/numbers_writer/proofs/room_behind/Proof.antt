@@ -26,7 +26,14 @@ returns c =
 
 add-value : tie.Need-overflow_add-value
 add-value c =
-    record { fits = omega (arith, length-decimal-le (start c).args.m, c.digit_count-value.ensures, (start c).well_formed) }
+    record {
+      fits = omega (
+        arith,
+        length-decimal-le (start c).args.m,
+        c.digit_count-value.ensures,
+        (start c).well_formed,
+      );
+    }
 
 returns-2 : tie.Need-returns-then-behind_key-value
 returns-2 c = omega (arith, long c.before, c.if-behind_key-value.true)

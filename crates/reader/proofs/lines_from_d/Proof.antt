@@ -28,7 +28,8 @@ abbrev left : tie.After-distance_line-distance → List ℕ
 left c = drop (start c).args.from (s c)
 
 d-answer : (c : tie.After-distance_line-distance)
-    → Reads (left c) c.distance_line-distance.result.answer c.distance_line-distance.result.number (distance_line (left c))
+    → Reads (left c) c.distance_line-distance.result.answer c.distance_line-distance.result.number
+    (distance_line (left c))
 d-answer c =
     number-reads (left c) (distance-line-outcome (left c))
     (c.distance_line-distance.ensures ∙ ap (λ t. number_answer t (distance_line t)) (tail_of (start c).args.from (s c)))

@@ -12,7 +12,8 @@ told : (c : tie.After-between-then-between)
     c.between-then-between.result ≡ between 1 (most_generators a.n) a.r
 told c =
     let a = c.args in
-    let given : c.between-then-between.result ≡ between 1 c.most_generators.result a.r = c.between-then-between.ensures in
+    let given : c.between-then-between.result ≡ between 1 c.most_generators.result a.r = c.between-then-between.ensures
+    in
     given ∙ ap (λ most. between 1 most a.r) c.most_generators.ensures
 
 returns : tie.Need-returns-then-between

@@ -70,7 +70,8 @@ left c test =
     let a = (start at.before).args in
     let few : at.loop-place.place < a.r = c.loop-place-test.true in
     at.loop-place.invariant.3
-    ∙ row_at a.n a.r at.loop-place.place a.g (omega (arith, at.loop-place.invariant.0, at.loop-place.invariant.2)) few test
+    ∙ row_at a.n a.r at.loop-place.place a.g (omega (arith, at.loop-place.invariant.0, at.loop-place.invariant.2)) few
+    test
 
 returns-2 : tie.Need-returns-then-not-is_row invariant-loop decreases-loop
 unfolding generators_within

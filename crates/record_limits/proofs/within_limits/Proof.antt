@@ -46,7 +46,8 @@ numbers-hold : (c : At1)
 numbers-hold c = passed c.numbers_within.ensures c.if-not-numbers_within.false-raw
 
 -- What a need asks for: the qubits, and that the used rows are fewer than an array has.
-sizes : (c : At1) → ((code_of1 c).n ≤ most_qubits) × ((code_of1 c).r ≤ row_room) × (logical_count (code_of1 c) ≤ row_room)
+sizes : (c : At1) → ((code_of1 c).n ≤ most_qubits) × ((code_of1 c).r ≤ row_room)
+    × (logical_count (code_of1 c) ≤ row_room)
 unfolding most_generators logical_count pair_count
 sizes c =
     let nr = both _ _ (both _ _ (numbers-hold c)).0 in
@@ -145,7 +146,8 @@ returns c = numbers-outside _ (failed c.numbers_within.ensures c.if-not-numbers_
 returns-2 : tie.Need-returns-then-not-is_row invariant-loop decreases-loop invariant-loop2 decreases-loop2
 returns-2 c =
     let row = c.before in
-    outside _ (passing-fails _ _ _ (at_g row).loop-place.invariant (few-g row) (failed row.is_row.ensures c.if-not-is_row.true-raw))
+    outside _ (passing-fails _ _ _ (at_g row).loop-place.invariant (few-g row)
+    (failed row.is_row.ensures c.if-not-is_row.true-raw))
     (λ tests. tests.generator_rows)
 
 loop-again : tie.Need-loop-place-preserved invariant-loop decreases-loop invariant-loop2 decreases-loop2
@@ -167,14 +169,16 @@ returns-3 : tie.Need-returns-then-not-is_row-2 invariant-loop decreases-loop inv
 returns-3 c =
     let row = c.before in
     let fails =
-    passing-fails _ _ _ (at_x row).loop-place-2.invariant.0 (few-x row) (failed row.is_row-in-loop-place-2.ensures c.if-not-is_row-2.true-raw) in
+    passing-fails _ _ _ (at_x row).loop-place-2.invariant.0 (few-x row)
+    (failed row.is_row-in-loop-place-2.ensures c.if-not-is_row-2.true-raw) in
     outside _ (told (at_x row) _ fails) (λ tests. tests.x_rows)
 
 returns-4 : tie.Need-returns-then-not-is_row-3 invariant-loop decreases-loop invariant-loop2 decreases-loop2
 returns-4 c =
     let row = c.before in
     let x = (x_of row).before in
-    let fails = passing-fails _ _ _ (at_x x).loop-place-2.invariant.1 (few-x x) (failed row.is_row-in-loop-place-2-2.ensures c.if-not-is_row-3.true-raw) in
+    let fails = passing-fails _ _ _ (at_x x).loop-place-2.invariant.1 (few-x x)
+    (failed row.is_row-in-loop-place-2-2.ensures c.if-not-is_row-3.true-raw) in
     outside _ (told (at_x x) _ fails) (λ tests. tests.z_rows)
 
 loop2-again : tie.Need-loop-place-2-preserved invariant-loop decreases-loop invariant-loop2 decreases-loop2
@@ -183,8 +187,10 @@ loop2-again c =
     let x = (x_of row).before in
     let at = at_x x in
     let one = (behind_g at).identity-one.ensures in (
-      passing-more _ _ _ at.loop-place-2.invariant.0 (few-x x) (passed x.is_row-in-loop-place-2.ensures (x_of row).if-not-is_row-2.false-raw) one,
-      passing-more _ _ _ at.loop-place-2.invariant.1 (few-x x) (passed row.is_row-in-loop-place-2-2.ensures c.if-not-is_row-3.false-raw) one,
+      passing-more _ _ _ at.loop-place-2.invariant.0 (few-x x)
+          (passed x.is_row-in-loop-place-2.ensures (x_of row).if-not-is_row-2.false-raw) one,
+      passing-more _ _ _ at.loop-place-2.invariant.1 (few-x x)
+          (passed row.is_row-in-loop-place-2-2.ensures c.if-not-is_row-3.false-raw) one,
     )
 
 returns-5 : tie.Need-returns-then-not-are_unused invariant-loop decreases-loop invariant-loop2 decreases-loop2

@@ -66,7 +66,8 @@ returns-2 : tie.Need-returns-then-n-gt-MOST_QUBITS
 unfolding write_refusal pair_fault errors_fault
 returns-2 c =
     let s = c.before.before.before in
-    outside-limits (pair s).n (text s) (buffer s) (outside-between 2 most_qubits (pair s).n (inr c.if-n-gt-MOST_QUBITS.true))
+    outside-limits (pair s).n (text s) (buffer s) (outside-between 2 most_qubits (pair s).n
+    (inr c.if-n-gt-MOST_QUBITS.true))
 
 returns-3 : tie.Need-returns-then-out-digit_count
 unfolding write_refusal pair_fault errors_fault

@@ -47,7 +47,8 @@ returns-3 : tie.Need-returns
 returns-3 c =
     let form = c.before.before in
     c.read_letters.ensures
-    ∙ sym (value_read (from (start form)) (n (start form)) (up_to most_qubits read_letters) (s (start form)) (ended form))
+    ∙ sym (value_read (from (start form)) (n (start form)) (up_to most_qubits read_letters) (s (start form))
+    (ended form))
 
 pub line_letters_spec : {M : Type 1} → statement M
 line_letters_spec =

@@ -24,7 +24,8 @@ abbrev start : tie.Else-not-qubits_allowed → tie.Start
 start c = c.before.before.before
 
 within : (c : tie.Else-not-qubits_allowed) → (2 ≤ (start c).args.n) × ((start c).args.n ≤ most_qubits)
-within c = between-bounds 2 most_qubits (start c).args.n (passed c.qubits_allowed.ensures c.if-not-qubits_allowed.false-raw)
+within c = between-bounds 2 most_qubits (start c).args.n (passed c.qubits_allowed.ensures
+    c.if-not-qubits_allowed.false-raw)
 
 -- ---- and with room
 room : (c : tie.Else-out-n) → length (line (start c.before)) ≤ length (buffer (start c.before))

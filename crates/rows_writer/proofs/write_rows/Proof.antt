@@ -75,7 +75,8 @@ returns-2 : tie.Need-returns-then-n-gt-MOST_QUBITS
 unfolding write_rows
 returns-2 c =
     let s = c.before.before.before in
-    outside-limits s.args.n (lines s) (buffer s) (outside-between 2 most_qubits s.args.n (inr c.if-n-gt-MOST_QUBITS.true))
+    outside-limits s.args.n (lines s) (buffer s) (outside-between 2 most_qubits s.args.n
+    (inr c.if-n-gt-MOST_QUBITS.true))
 
 mul-if3 : tie.Need-overflow_mul-there
 mul-if3 c =

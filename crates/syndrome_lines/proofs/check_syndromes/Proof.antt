@@ -69,7 +69,8 @@ add-end-2 c = record { fits = lt_of_le_of_lt (within c) (here c).well_formed.0.0
 
 add-count : tie.Need-overflow_add-count invariant-loop decreases-loop
 add-count c =
-    let fewer : (here c).loop-end.count + 1 ≤ length (s (here c)) = omega (arith, within c, (here c).loop-end.invariant.few) in
+    let fewer : (here c).loop-end.count + 1 ≤ length (s (here c)) = omega
+    (arith, within c, (here c).loop-end.invariant.few) in
     record { fits = lt_of_le_of_lt fewer (here c).well_formed.0.0 }
 
 loop-less : tie.Need-loop-end-smaller invariant-loop decreases-loop

@@ -24,8 +24,11 @@ loop-again : tie.Need-loop-i-preserved invariant-loop decreases-loop
 loop-again c =
     let at = c.before.before in
     let s = at.args.digits.now in
-    let i = at.loop-i.i in
-    (search rules, ap (λ m. (m * 10 + get_or s i 0 % 16) % 1000000) at.loop-i.invariant.1 ∙ said_more s i (search rules))
+    let i = at.loop-i.i in (
+      search rules,
+      ap (λ m. (m * 10 + get_or s i 0 % 16) % 1000000) at.loop-i.invariant.1
+          ∙ said_more s i (search rules),
+    )
 
 returns : tie.Need-returns invariant-loop decreases-loop
 returns c =

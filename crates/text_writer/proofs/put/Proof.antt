@@ -36,7 +36,8 @@ loop-again c =
     let loop = c.before.before in
     let a = (start loop).args in (
       search rules,
-      ap (λ bytes. set bytes loop.loop-place.place (get_or a.text.now loop.loop-place.place 0)) loop.loop-place.invariant.1
+      ap (λ bytes. set bytes loop.loop-place.place (get_or a.text.now loop.loop-place.place 0))
+          loop.loop-place.invariant.1
           ∙ byte-laid a.text.now a.out.now (start loop).requires loop.loop-place.place 0 (search rules),
     )
 

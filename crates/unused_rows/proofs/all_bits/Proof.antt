@@ -27,8 +27,12 @@ loop-again c =
     let at = c.before.before.before.before.before in
     let rows = at.args.rows in
     let room = at.loop-place.invariant.0 in
-    let follows : at.loop-place.place ≡ suc (at.loop-place.place - 1) = omega arith in
-    (room, omega arith, bits-from rows (at.loop-place.place - 1) (omega (arith, room)) follows at.loop-place.invariant.2)
+    let follows : at.loop-place.place ≡ suc (at.loop-place.place - 1) = omega arith in (
+      room,
+      omega arith,
+      bits-from rows (at.loop-place.place - 1) (omega (arith, room)) follows
+          at.loop-place.invariant.2,
+    )
 
 returns : tie.Need-returns invariant-loop decreases-loop
 returns c =

@@ -25,7 +25,8 @@ within c = passed c.within_limits.ensures c.if-not-within_limits.false-raw
 abbrev lawful : tie.Else-out-sheet_length → tie.Else-not-within_limits
 lawful c = c.before.before
 
-room : (c : tie.Else-out-sheet_length) → length (sheet_text (start (lawful c)).args.code) ≤ length (start (lawful c)).args.out.now
+room : (c : tie.Else-out-sheet_length) → length (sheet_text (start (lawful c)).args.code) ≤ length
+    (start (lawful c)).args.out.now
 room c = omega (arith, c.sheet_length.ensures)
 
 -- ---- the needs

@@ -29,4 +29,5 @@ returns-in-2 c =
 pub returns-in_default : goal.returns-in_default
 unfolding letter_at
 returns-in_default c =
-    chosen c.args.x c.args.z 1 1 (omega (arith, c.in_default.in_default-own.rest)) (omega (arith, c.in_default.in_default-own.rest))
+    chosen c.args.x c.args.z 1 1 (omega (arith, c.in_default.in_default-own.rest))
+    (omega (arith, c.in_default.in_default-own.rest))

@@ -46,13 +46,15 @@ returns : tie.Need-returns-else-place-count invariant-loop decreases-loop
 returns c =
     let at = c.before.before in
     let a = at.args in
-    reduced-end a.self at.loop-place.place a.self.n at.loop-place.left (inl (omega (arith, ltb-false))) ∙ at.loop-place.invariant
+    reduced-end a.self at.loop-place.place a.self.n at.loop-place.left (inl (omega (arith, ltb-false)))
+    ∙ at.loop-place.invariant
 
 returns-2 : tie.Need-returns-after-loop-place invariant-loop decreases-loop
 returns-2 c =
     let at = c.before in
     let a = at.args in
-    reduced-end a.self at.loop-place.place a.self.n at.loop-place.left (inr (omega (arith, room at))) ∙ at.loop-place.invariant
+    reduced-end a.self at.loop-place.place a.self.n at.loop-place.left (inr (omega (arith, room at)))
+    ∙ at.loop-place.invariant
 
 pub reduce_spec : {M : Type 1} → statement M
 reduce_spec =

@@ -22,8 +22,11 @@ loop-holds c = (omega arith, ap shown (take-length c.args.buffer.now))
 loop-again : tie.Need-loop-end-preserved invariant-loop decreases-loop
 loop-again c =
     let at = c.before.before.before in
-    let s = at.args.buffer.now in
-    (search rules, shown-before-dot s at.loop-end.end (search rules) (search rules) c.if-buffer-end-eq46.true-raw ∙ at.loop-end.invariant.1)
+    let s = at.args.buffer.now in (
+      search rules,
+      shown-before-dot s at.loop-end.end (search rules) (search rules) c.if-buffer-end-eq46.true-raw
+          ∙ at.loop-end.invariant.1,
+    )
 
 returns : tie.Need-returns-else-buffer-end-eq46 invariant-loop decreases-loop
 returns c =
