@@ -33,10 +33,17 @@ fn report(input: &[u8], out: &mut [u8]) -> usize
 }
 
 // Where a read fails there is no report, since the input is not known; where a write fails the report may be cut off.
+// Both are told on standard error.
 fn main(rt: HostRuntime) -> io::Result<()> {
     let mut input = [0u8; 65536];
-    let len = read_input(&mut rt.reader(), &mut input)?;
+    let len = match read_input(&mut rt.reader(), &mut input) {
+        Ok(len) => len,
+        Err(error) => return eprintln!(rt; "standard input: {error}"),
+    };
     let mut output = [0u8; 65536];
     let count = report(&input[..len], &mut output);
-    rt.write_all(&output[..count])
+    match rt.write_all(&output[..count]) {
+        Ok(()) => Ok(()),
+        Err(error) => eprintln!(rt; "standard output: {error}"),
+    }
 }
