@@ -30,7 +30,7 @@ use Rattle.corrections.proofs.ByValue.{corrections-by-value, qubits-have-words}
 use Rattle.reporting.specs.Report.{correction_value, correction_line}
 use Rattle.reporting.specs.Statements.{syndrome_line_text, syndromes_text}
 use Rattle.reporting.proofs.Syndromes.{HaveRBits, line_read, syndromes-outcome}
-use Rattle.syndrome_lines.specs.SyndromeLines.{mask_line, syndrome_length, lineFault}
+use Rattle.syndrome_lines.specs.SyndromeLines.{mask_line, syndrome_length, line_fault}
 use Rattle.syndrome_lines.proofs.InReports.{syndrome-lines-are-read}
 use Rattle.correction_writer.specs.Lines.{correction_text}
 use Rattle.correction_lines.specs.Statements.{CorrectionLinesAreReported}
@@ -81,7 +81,7 @@ module _ (c : Code) (sized : Sized c) (within : within_limits c ≡ true) where
             (mask_line c.r text ≡ SyndromeRead.Mask (mask_of_bits bits)) × (drop (syndrome_length c.r) text ≡ rest)
 
         line-masked : IsRead
-        unfolding lineFault
+        unfolding line_fault
         line-masked = by-line (mask_line c.r text) refl
           where
             by-line : (x : SyndromeRead) → mask_line c.r text ≡ x → IsRead
@@ -90,7 +90,7 @@ module _ (c : Code) (sized : Sized c) (within : within_limits c ≡ true) where
                 let same = same_line (sym told.1 ∙ line_read c 0 bits rest count) in
                 (e ∙ ap SyndromeRead.Mask (told.2 ∙ ap mask_of_bits same.0), same.1)
             by-line SyndromeRead.Malformed e =
-                let off = syndrome-lines-are-read.malformed c 0 text _ few (ap (lineFault 0) e) in
+                let off = syndrome-lines-are-read.malformed c 0 text _ few (ap (line_fault 0) e) in
                 absurd (not_stopped (sym (line_read c 0 bits rest count) ∙ off))
 
   -- ---- all syndromes

@@ -39,7 +39,7 @@ use Rattle.reporting.proofs.Steps.{lines_from}
 use Rattle.refusal_writer.specs.RefusalLines.{errors_fault, pair_fault, write_refusal}
 use Rattle.refusal_writer.proofs.RefusalCall.{refusal-is-written}
 use Rattle.syndrome_lines.specs.declared.SyndromeLines.{SyndromeLines}
-use Rattle.syndrome_lines.specs.SyndromeLines.{checkLines, lines_fault}
+use Rattle.syndrome_lines.specs.SyndromeLines.{check_lines, lines_fault}
 use Rattle.syndrome_lines.proofs.InReports.{syndrome-lines-are-read}
 use Rattle.correction_lines.proofs.InReports.{correction-lines-are-reported}
 use Rattle.account_writer.specs.Account.{account_text, write_account}
@@ -173,7 +173,7 @@ module _ (input buffer : List ℕ) where
             (correction-lines-are-reported own (at + 1) g.rest syndromes lawful.sized lawful.limits lines)
             ∙ as-report (report-by-lines (got syndromes []) lines)
 
-        by_lines : (checked : SyndromeLines) → checkLines own.r g.rest ≡ checked
+        by_lines : (checked : SyndromeLines) → check_lines own.r g.rest ≡ checked
             → write_by_fault own hs g.rest buffer (lines_fault (at + 1) checked) ≡ write_report input buffer
         unfolding write_by_fault lines_fault report_of_syndromes pair_fault errors_fault
         by_lines SyndromeLines.Read e =
@@ -195,7 +195,7 @@ module _ (input buffer : List ℕ) where
           ∙ ap (λ (s : List ℕ). write_checked own hs at s buffer) g.left
           ∙ by_lines hs
           (found ∙ ap (λ (c : Code). reduced_of c.n (canonical_generators c.n (generators c))) g.code)
-          (checkLines own.r g.rest) refl
+          (check_lines own.r g.rest) refl
 
     -- The numbers of the lines behind w are small.
     pub few-lines : reading.claim_at + length (behind input reading.answer) + 1 < 2 ^ 64

@@ -6,7 +6,7 @@ use Rattle.refusals.specs.declared.Refusal.{Refusal}
 use Rattle.refusals.specs.declared.Written.{Written}
 use Rattle.sheet.specs.Text.{After}
 use Rattle.reduced_rows.specs.declared.ReducedRows.{ReducedRows}
-use Rattle.syndrome_lines.specs.SyndromeLines.{checkLines, lines_fault}
+use Rattle.syndrome_lines.specs.SyndromeLines.{check_lines, lines_fault}
 use Rattle.refusal_writer.specs.RefusalLines.{write_refusal}
 use Rattle.account_writer.specs.Account.{write_account}
 
@@ -18,4 +18,4 @@ write_by_fault c hs s buffer (some refusal) = write_refusal refusal buffer
 -- RULES, "The report": 16 at the first line behind w that is no syndrome's. w is on the line `at`, and the first of
 -- them on the line behind it.
 unfoldable pub write_checked : Code → ReducedRows → ℕ → List ℕ → List ℕ → After Written
-write_checked c hs at s buffer = write_by_fault c hs s buffer (lines_fault (at + 1) (checkLines c.r s))
+write_checked c hs at s buffer = write_by_fault c hs s buffer (lines_fault (at + 1) (check_lines c.r s))

@@ -8,11 +8,11 @@ use Rattle.decoder.specs.Definitions.{definitions}
 use Rattle.syndrome_reader.specs.declared.SyndromeRead.{SyndromeRead}
 use Rattle.syndrome_reader.specs.Mask.{mask_read, read_mask}
 use Rattle.syndrome_lines.specs.declared.SyndromeLines.{SyndromeLines}
-use Rattle.syndrome_lines.specs.SyndromeLines.{mask_line, syndrome_length, oneMore, lineThen}
-use Rattle.syndrome_lines.specs.SyndromeLines.{checkedLines, checkLines}
+use Rattle.syndrome_lines.specs.SyndromeLines.{mask_line, syndrome_length, one_more, line_then}
+use Rattle.syndrome_lines.specs.SyndromeLines.{checked_lines, check_lines}
 
 unfoldable all : Unit {0}
-unfolding checkLines checkedLines lineThen oneMore syndrome_length mask_line read_mask mask_read definitions
+unfolding check_lines checked_lines line_then one_more syndrome_length mask_line read_mask mask_read definitions
 all = tt
 
 -- ---- one line
@@ -44,23 +44,23 @@ line-of_33 = refl
 
 -- ---- all lines
 
-none_read : checkLines 4 [] ≡ SyndromeLines.Read
+none_read : check_lines 4 [] ≡ SyndromeLines.Read
 unfolding all
 none_read = refl
 
-two-read : checkLines 4 (bytes "s=0011\ns=0100\n") ≡ SyndromeLines.Read
+two-read : check_lines 4 (bytes "s=0011\ns=0100\n") ≡ SyndromeLines.Read
 unfolding all
 two-read = refl
 
 -- the fault of the second line is told, and not that of the third
-second-off-form : checkLines 4 (bytes "s=0011\ns=0120\nw=0100\ns=0100\n") ≡ SyndromeLines.OffForm 1
+second-off-form : check_lines 4 (bytes "s=0011\ns=0120\nw=0100\ns=0100\n") ≡ SyndromeLines.OffForm 1
 unfolding all
 second-off-form = refl
 
-empty-line : checkLines 4 (bytes "s=0011\ns=0100\n\n") ≡ SyndromeLines.OffForm 2
+empty-line : check_lines 4 (bytes "s=0011\ns=0100\n\n") ≡ SyndromeLines.OffForm 2
 unfolding all
 empty-line = refl
 
-last-without-feed : checkLines 4 (bytes "s=0011\ns=0100") ≡ SyndromeLines.OffForm 1
+last-without-feed : check_lines 4 (bytes "s=0011\ns=0100") ≡ SyndromeLines.OffForm 1
 unfolding all
 last-without-feed = refl

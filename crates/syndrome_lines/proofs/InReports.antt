@@ -19,21 +19,21 @@ use Rattle.syndrome_reader.proofs.ReadMask.{mask-is-of-bits}
 use Rattle.reporting.specs.Report.{syndrome_line}
 use Rattle.reporting.proofs.Steps.{before, lines_from, lines-ended, lines-got, lines-stopped}
 use Rattle.syndrome_lines.specs.declared.SyndromeLines.{SyndromeLines}
-use Rattle.syndrome_lines.specs.SyndromeLines.{mask_line, syndrome_length, oneMore, checkLines}
-use Rattle.syndrome_lines.specs.SyndromeLines.{lineFault, lines_fault}
+use Rattle.syndrome_lines.specs.SyndromeLines.{mask_line, syndrome_length, one_more, check_lines}
+use Rattle.syndrome_lines.specs.SyndromeLines.{line_fault, lines_fault}
 use Rattle.syndrome_lines.specs.Statements.{SyndromeLinesAreRead}
 use Rattle.syndrome_lines.proofs.Lines.{no-mask, check-ended, check-off, check-more}
 
 -- ---- what is told of the lines behind one
 
-read_behind : (lines : SyndromeLines) → oneMore lines ≡ SyndromeLines.Read → lines ≡ SyndromeLines.Read
-unfolding oneMore
+read_behind : (lines : SyndromeLines) → one_more lines ≡ SyndromeLines.Read → lines ≡ SyndromeLines.Read
+unfolding one_more
 read_behind SyndromeLines.Read e = refl
 read_behind (SyndromeLines.OffForm m) e = cc
 
-off-behind : (lines : SyndromeLines) (m : ℕ) → oneMore lines ≡ SyndromeLines.OffForm m
+off-behind : (lines : SyndromeLines) (m : ℕ) → one_more lines ≡ SyndromeLines.OffForm m
     → (k : ℕ) × (lines ≡ SyndromeLines.OffForm k) × (k + 1 ≡ m)
-unfolding oneMore
+unfolding one_more
 off-behind SyndromeLines.Read m e = let z : ◌≡◌ {A = ℕ} 0 1 = cc in absurd (omega arith)
 off-behind (SyndromeLines.OffForm k) m e = (k, refl, cc)
 
@@ -93,7 +93,7 @@ module _ (c : Code) where
   abbrev AllRead : ℕ → List ℕ → Type 0
   AllRead at s = (syndromes : List (List Bool)) × (lines_from c at s ≡ got syndromes [])
 
-  read : (most at : ℕ) (s : List ℕ) → length s ≤ most → checkLines c.r s ≡ SyndromeLines.Read → AllRead at s
+  read : (most at : ℕ) (s : List ℕ) → length s ≤ most → check_lines c.r s ≡ SyndromeLines.Read → AllRead at s
   unfolding before
   read zero at [] few e = ([], lines-ended c at)
   read zero at (b ∷ s) few e = absurd (omega arith)
@@ -102,7 +102,7 @@ module _ (c : Code) where
       by-line (mask_line c.r (b ∷ s)) refl (read most (at + 1) (behind (b ∷ s)) (omega (arith, shorter b s)))
     where
       by-line : (x : SyndromeRead) → mask_line c.r (b ∷ s) ≡ x
-          → (checkLines c.r (behind (b ∷ s)) ≡ SyndromeLines.Read → AllRead (at + 1) (behind (b ∷ s)))
+          → (check_lines c.r (behind (b ∷ s)) ≡ SyndromeLines.Read → AllRead (at + 1) (behind (b ∷ s)))
           → AllRead at (b ∷ s)
       by-line (SyndromeRead.Mask m) f next =
           let first = line at (b ∷ s) m f in
@@ -114,7 +114,7 @@ module _ (c : Code) where
           absurd (not-both (sym (check-off c.r (b ∷ s) (omega arith) f) ∙ e))
 
   off-form : c.r ≤ row_room → (most at : ℕ) (s : List ℕ) (m : ℕ) → length s ≤ most
-      → checkLines c.r s ≡ SyndromeLines.OffForm m → lines_from c at s ≡ stop (Refusal.Syndrome (at + m))
+      → check_lines c.r s ≡ SyndromeLines.OffForm m → lines_from c at s ≡ stop (Refusal.Syndrome (at + m))
   unfolding before
   off-form room zero at [] m few e = absurd (not-both (sym e ∙ check-ended c.r))
   off-form room zero at (b ∷ s) m few e = absurd (omega arith)
@@ -124,7 +124,7 @@ module _ (c : Code) where
       (λ m. off-form room most (at + 1) (behind (b ∷ s)) m (omega (arith, shorter b s)))
     where
       by-line : (x : SyndromeRead) → mask_line c.r (b ∷ s) ≡ x
-          → ((m : ℕ) → checkLines c.r (behind (b ∷ s)) ≡ SyndromeLines.OffForm m
+          → ((m : ℕ) → check_lines c.r (behind (b ∷ s)) ≡ SyndromeLines.OffForm m
           → lines_from c (at + 1) (behind (b ∷ s)) ≡ stop (Refusal.Syndrome (at + 1 + m)))
           → lines_from c at (b ∷ s) ≡ stop (Refusal.Syndrome (at + m))
       by-line (SyndromeRead.Mask mask) f next =
@@ -142,9 +142,9 @@ module _ (c : Code) where
 
 -- ---- by what the answers refuse
 
-malformed-told : (at : ℕ) (x : SyndromeRead) (refusal : Refusal) → lineFault at x ≡ some refusal
+malformed-told : (at : ℕ) (x : SyndromeRead) (refusal : Refusal) → line_fault at x ≡ some refusal
     → (x ≡ SyndromeRead.Malformed) × (Refusal.Syndrome at ≡ refusal)
-unfolding lineFault
+unfolding line_fault
 malformed-told at (SyndromeRead.Mask m) refusal e = absurd (none-ne-some refusal e)
 malformed-told at SyndromeRead.Malformed refusal e = (refl, some-injective _ refusal e)
 

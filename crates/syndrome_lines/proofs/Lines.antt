@@ -23,8 +23,8 @@ use Rattle.syndrome_reader.specs.declared.SyndromeRead.{SyndromeRead}
 use Rattle.syndrome_reader.specs.Mask.{read_mask}
 use Rattle.syndrome_reader.proofs.ReadMask.{many-generators}
 use Rattle.syndrome_lines.specs.declared.SyndromeLines.{SyndromeLines}
-use Rattle.syndrome_lines.specs.SyndromeLines.{mask_line, syndrome_length, oneMore, lineThen}
-use Rattle.syndrome_lines.specs.SyndromeLines.{checkedLines, checkLines}
+use Rattle.syndrome_lines.specs.SyndromeLines.{mask_line, syndrome_length, one_more, line_then}
+use Rattle.syndrome_lines.specs.SyndromeLines.{checked_lines, check_lines}
 
 -- A mask is not malformed.
 pub no-mask : {m : ℕ} → SyndromeRead.Malformed ≡ SyndromeRead.Mask m → ⊥
@@ -83,16 +83,16 @@ module _ (r : ℕ) (s : List ℕ) where
 -- ---- the lines one by one
 
 then_same : (line : SyndromeRead) (others others' : List ℕ → SyndromeLines) (behind : List ℕ)
-    → others behind ≡ others' behind → lineThen line others behind ≡ lineThen line others' behind
-unfolding lineThen
-then_same (SyndromeRead.Mask m) others others' behind e = ap oneMore e
+    → others behind ≡ others' behind → line_then line others behind ≡ line_then line others' behind
+unfolding line_then
+then_same (SyndromeRead.Mask m) others others' behind e = ap one_more e
 then_same SyndromeRead.Malformed others others' behind e = refl
 
 module _ (r : ℕ) where
   -- As many lines as bytes are enough, and more are as good.
   pub check-bound : (most more : ℕ) (s : List ℕ) → length s ≤ most → length s ≤ more
-      → checkedLines most r s ≡ checkedLines more r s
-  unfolding checkedLines syndrome_length
+      → checked_lines most r s ≡ checked_lines more r s
+  unfolding checked_lines syndrome_length
   check-bound zero zero s few fewer = refl
   check-bound zero (suc more) [] few fewer = refl
   check-bound (suc most) zero [] few fewer = refl
@@ -102,29 +102,29 @@ module _ (r : ℕ) where
   check-bound (suc most) (suc more) (b ∷ s) few fewer =
       let behind = drop (r + 3) (b ∷ s) in
       let fewer_bytes = length-drop (r + 3) (b ∷ s) in
-      then_same (mask_line r (b ∷ s)) (checkedLines most r) (checkedLines more r) behind
+      then_same (mask_line r (b ∷ s)) (checked_lines most r) (checked_lines more r) behind
       (check-bound most more behind (omega arith) (omega arith))
 
-  pub check-ended : checkLines r [] ≡ SyndromeLines.Read
-  unfolding checkLines checkedLines
+  pub check-ended : check_lines r [] ≡ SyndromeLines.Read
+  unfolding check_lines checked_lines
   check-ended = refl
 
   pub check-off : (s : List ℕ) → 0 < length s → mask_line r s ≡ SyndromeRead.Malformed
-      → checkLines r s ≡ SyndromeLines.OffForm 0
-  unfolding checkLines checkedLines lineThen
+      → check_lines r s ≡ SyndromeLines.OffForm 0
+  unfolding check_lines checked_lines line_then
   check-off [] some e = absurd (omega arith)
   check-off (b ∷ s) some e =
-      ap (λ line. lineThen line (checkedLines (length s) r) (drop (syndrome_length r) (b ∷ s))) e
+      ap (λ line. line_then line (checked_lines (length s) r) (drop (syndrome_length r) (b ∷ s))) e
 
   pub check-more : (s : List ℕ) {m : ℕ} → mask_line r s ≡ SyndromeRead.Mask m
-      → checkLines r s ≡ oneMore (checkLines r (drop (syndrome_length r) s))
-  unfolding checkLines checkedLines lineThen syndrome_length
+      → check_lines r s ≡ one_more (check_lines r (drop (syndrome_length r) s))
+  unfolding check_lines checked_lines line_then syndrome_length
   check-more [] {m} e = absurd (omega (arith, mask-within r [] e))
   check-more (b ∷ s) {m} e =
       let behind = drop (r + 3) (b ∷ s) in
       let fewer_bytes = length-drop (r + 3) (b ∷ s) in
-      ap (λ line. lineThen line (checkedLines (length s) r) behind) e
-      ∙ ap oneMore (check-bound (length s) (length behind) behind (omega arith) (omega arith))
+      ap (λ line. line_then line (checked_lines (length s) r) behind) e
+      ∙ ap one_more (check-bound (length s) (length behind) behind (omega arith) (omega arith))
 
 -- ---- how many lines stand before a fault
 
@@ -132,28 +132,28 @@ abbrev pub lines_before : SyndromeLines → ℕ
 lines_before SyndromeLines.Read = 0
 lines_before (SyndromeLines.OffForm m) = m
 
-one-more-before : (lines : SyndromeLines) → lines_before (oneMore lines) ≤ lines_before lines + 1
-unfolding oneMore
+one-more-before : (lines : SyndromeLines) → lines_before (one_more lines) ≤ lines_before lines + 1
+unfolding one_more
 one-more-before SyndromeLines.Read = omega arith
 one-more-before (SyndromeLines.OffForm m) = omega arith
 
 then-few : (line : SyndromeRead) (others : List ℕ → SyndromeLines) (behind : List ℕ) (most : ℕ)
-    → lines_before (others behind) ≤ most → lines_before (lineThen line others behind) ≤ suc most
-unfolding lineThen
+    → lines_before (others behind) ≤ most → lines_before (line_then line others behind) ≤ suc most
+unfolding line_then
 then-few (SyndromeRead.Mask m) others behind most few = omega (arith, one-more-before (others behind))
 then-few SyndromeRead.Malformed others behind most few = omega arith
 
-checked-few : (most r : ℕ) (s : List ℕ) → lines_before (checkedLines most r s) ≤ most
-unfolding checkedLines
+checked-few : (most r : ℕ) (s : List ℕ) → lines_before (checked_lines most r s) ≤ most
+unfolding checked_lines
 checked-few zero r [] = omega arith
 checked-few zero r (b ∷ s) = omega arith
 checked-few (suc most) r [] = omega arith
 checked-few (suc most) r (b ∷ s) =
-    then-few (mask_line r (b ∷ s)) (checkedLines most r) _ most (checked-few most r (drop (syndrome_length r) (b ∷ s)))
+    then-few (mask_line r (b ∷ s)) (checked_lines most r) _ most (checked-few most r (drop (syndrome_length r) (b ∷ s)))
 
 -- Each has a byte.
-pub few-before : (r : ℕ) (s : List ℕ) → lines_before (checkLines r s) ≤ length s
-unfolding checkLines
+pub few-before : (r : ℕ) (s : List ℕ) → lines_before (check_lines r s) ≤ length s
+unfolding check_lines
 few-before r s = checked-few (length s) r s
 
 -- ---- what a loop has read
@@ -168,8 +168,8 @@ unfolding after
 after_none SyndromeLines.Read = refl
 after_none (SyndromeLines.OffForm m) = let same : m ≡ 0 + m = omega arith in ap SyndromeLines.OffForm same
 
-after_one : (count : ℕ) (lines : SyndromeLines) → after count (oneMore lines) ≡ after (count + 1) lines
-unfolding after oneMore
+after_one : (count : ℕ) (lines : SyndromeLines) → after count (one_more lines) ≡ after (count + 1) lines
+unfolding after one_more
 after_one count SyndromeLines.Read = refl
 after_one count (SyndromeLines.OffForm m) =
     let same : count + (m + 1) ≡ count + 1 + m = omega arith in ap SyndromeLines.OffForm same
@@ -178,11 +178,11 @@ after_one count (SyndromeLines.OffForm m) =
 pub record Checked (r : ℕ) (s : List ℕ) (end count : ℕ) : Type 0 where
   pub few : count ≤ end
   pub within : end ≤ length s
-  pub so_far : checkLines r s ≡ after count (checkLines r (drop end s))
+  pub so_far : check_lines r s ≡ after count (check_lines r (drop end s))
 
 module _ (r : ℕ) (s : List ℕ) where
   pub checked-none : Checked r s 0 0
-  checked-none = record { few = omega arith; within = omega arith; so_far = after_none (checkLines r s) }
+  checked-none = record { few = omega arith; within = omega arith; so_far = after_none (check_lines r s) }
 
   module _ {end count : ℕ} (h : Checked r s end count) where
     -- The line at the place is within the bytes.
@@ -199,12 +199,12 @@ module _ (r : ℕ) (s : List ℕ) where
           within = line-within e;
           so_far =
               h.so_far ∙ ap (after count) (check-more r (drop end s) e)
-              ∙ after_one count (checkLines r (drop (r + 3) (drop end s)))
-              ∙ ap (λ rest. after (count + 1) (checkLines r rest)) (drop-drop (r + 3) end s);
+              ∙ after_one count (check_lines r (drop (r + 3) (drop end s)))
+              ∙ ap (λ rest. after (count + 1) (check_lines r rest)) (drop-drop (r + 3) end s);
         }
 
     pub checked-off : end < length s → mask_line r (drop end s) ≡ SyndromeRead.Malformed
-        → SyndromeLines.OffForm count ≡ checkLines r s
+        → SyndromeLines.OffForm count ≡ check_lines r s
     unfolding after
     checked-off inside e =
         let same : count + 0 ≡ count = omega arith in
@@ -212,9 +212,9 @@ module _ (r : ℕ) (s : List ℕ) where
         (h.so_far ∙ ap (after count) (check-off r (drop end s) (omega (arith, length-drop end s)) e)
         ∙ ap SyndromeLines.OffForm same)
 
-    pub checked-all : length s ≤ end → SyndromeLines.Read ≡ checkLines r s
+    pub checked-all : length s ≤ end → SyndromeLines.Read ≡ check_lines r s
     unfolding after
     checked-all all =
         sym
-        (h.so_far ∙ ap (λ rest. after count (checkLines r rest)) (drop_of_length-le s all)
+        (h.so_far ∙ ap (λ rest. after count (check_lines r rest)) (drop_of_length-le s all)
         ∙ ap (after count) (check-ended r))

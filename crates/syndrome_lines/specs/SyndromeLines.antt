@@ -18,33 +18,33 @@ unfoldable pub syndrome_length : ℕ → ℕ
 syndrome_length r = r + 3
 
 -- One line was read before those that are told of.
-unfoldable pub oneMore : SyndromeLines → SyndromeLines
-oneMore SyndromeLines.Read = SyndromeLines.Read
-oneMore (SyndromeLines.OffForm m) = SyndromeLines.OffForm (m + 1)
+unfoldable pub one_more : SyndromeLines → SyndromeLines
+one_more SyndromeLines.Read = SyndromeLines.Read
+one_more (SyndromeLines.OffForm m) = SyndromeLines.OffForm (m + 1)
 
 -- A line that is read stands before the others; one that is not ends the reading.
-unfoldable pub lineThen : SyndromeRead → (List ℕ → SyndromeLines) → List ℕ → SyndromeLines
-lineThen (SyndromeRead.Mask m) others behind = oneMore (others behind)
-lineThen SyndromeRead.Malformed others behind = SyndromeLines.OffForm 0
+unfoldable pub line_then : SyndromeRead → (List ℕ → SyndromeLines) → List ℕ → SyndromeLines
+line_then (SyndromeRead.Mask m) others behind = one_more (others behind)
+line_then SyndromeRead.Malformed others behind = SyndromeLines.OffForm 0
 
 -- RULES, "The report": any number of such lines, to the end of the input. So many at most.
-unfoldable pub checkedLines : ℕ → ℕ → List ℕ → SyndromeLines
-checkedLines zero r [] = SyndromeLines.Read
-checkedLines zero r (b ∷ s) = SyndromeLines.OffForm 0
-checkedLines (suc most) r [] = SyndromeLines.Read
-checkedLines (suc most) r (b ∷ s) =
-    lineThen (mask_line r (b ∷ s)) (checkedLines most r) (drop (syndrome_length r) (b ∷ s))
+unfoldable pub checked_lines : ℕ → ℕ → List ℕ → SyndromeLines
+checked_lines zero r [] = SyndromeLines.Read
+checked_lines zero r (b ∷ s) = SyndromeLines.OffForm 0
+checked_lines (suc most) r [] = SyndromeLines.Read
+checked_lines (suc most) r (b ∷ s) =
+    line_then (mask_line r (b ∷ s)) (checked_lines most r) (drop (syndrome_length r) (b ∷ s))
 
 -- A line has a byte at least, so as many lines as bytes are enough.
-unfoldable pub checkLines : ℕ → List ℕ → SyndromeLines
-checkLines r s = checkedLines (length s) r s
+unfoldable pub check_lines : ℕ → List ℕ → SyndromeLines
+check_lines r s = checked_lines (length s) r s
 
 -- ---- what the answers refuse
 
 -- RULES, "Refusals": 16 where a line, the one numbered `at`, is no syndrome's.
-unfoldable pub lineFault : ℕ → SyndromeRead → Option Refusal
-lineFault at (SyndromeRead.Mask m) = none
-lineFault at SyndromeRead.Malformed = some (Refusal.Syndrome at)
+unfoldable pub line_fault : ℕ → SyndromeRead → Option Refusal
+line_fault at (SyndromeRead.Mask m) = none
+line_fault at SyndromeRead.Malformed = some (Refusal.Syndrome at)
 
 -- RULES, "Refusals": 16 at the first line that is no syndrome's, where the first of all is numbered `at`.
 unfoldable pub lines_fault : ℕ → SyndromeLines → Option Refusal

@@ -2,7 +2,7 @@
 #![tactic(auto)]
 
 ghost use Rattle.std.specs.Prelude.{◌≡◌};
-ghost use Rattle.syndrome_lines.specs.SyndromeLines.{mask_line, checkLines};
+ghost use Rattle.syndrome_lines.specs.SyndromeLines.{mask_line, check_lines};
 
 use code_record::ROW_ROOM;
 use line_kinds::LineKind;
@@ -34,7 +34,7 @@ pub enum SyndromeLines {
 
 // Whether all of s is lines of syndromes of r generators.
 pub fn check_syndromes(s: &[u8], r: usize) -> SyndromeLines
-    ensures { result ≡ checkLines r s.now }
+    ensures { result ≡ check_lines r s.now }
 {
     let mut end: usize = 0;
     let mut count: usize = 0;
