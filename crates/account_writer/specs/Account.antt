@@ -1,9 +1,9 @@
 -- The account of a code in a report, and the call for it.
-use Rattle.std.specs.Prelude.{List, ◌++◌, ℕ}
+use Rattle.std.specs.Prelude.{Result, List, ◌++◌, ℕ}
 use Prim.Native.Char.{code}
+use Rattle.refusals.specs.declared.Refusal.{Refusal}
 use Rattle.code_record.specs.declared.Code.{Code}
 use Rattle.code_record.specs.Record.{logical_count, radius, qubit_fault}
-use Rattle.refusals.specs.declared.Written.{Written}
 use Rattle.sheet.specs.Text.{After, written}
 use Rattle.rows_writer.specs.Rows.{rows_text}
 use Rattle.reduced_rows.specs.declared.ReducedRows.{ReducedRows}
@@ -29,5 +29,5 @@ account_by c hs words s = code_by c hs ++ corrections_text words (radius c) c.r 
 
 -- RULES, "Calls and buffers": the account by rows that are given: 15 where n is not 2 to 24, then 17, then the lines
 -- and their length.
-unfoldable pub write_account : Code → ReducedRows → List ℕ → List ℕ → After Written
+unfoldable pub write_account : Code → ReducedRows → List ℕ → List ℕ → After (Result ℕ Refusal)
 write_account c hs s buffer = written (qubit_fault c.n) (account_by c hs (syndrome_words c) s) buffer

@@ -1,6 +1,5 @@
 -- What is stated of the account of a code.
-use Rattle.std.specs.Prelude.{List, ◌≡◌, ℕ}
-use Rattle.std.proofs.Math.Option.{none}
+use Rattle.std.specs.Prelude.{None, List, ◌≡◌, ℕ}
 use Rattle.code_record.specs.declared.Code.{Code}
 use Rattle.code_record.specs.Record.{generators}
 use Rattle.sheet.specs.Text.{written}
@@ -13,6 +12,6 @@ use Rattle.account_writer.specs.Account.{account_text, write_account}
 -- says of it, and refuses with 17 alone.
 abbrev pub AccountIsOfRecord : Type 0
 AccountIsOfRecord =
-    (c : Code) → group_fault c ≡ none → (s buffer : List ℕ)
+    (c : Code) → group_fault c ≡ None → (s buffer : List ℕ)
     → write_account c (reduced_of c.n (canonical_generators c.n (generators c))) s buffer
-    ≡ written none (account_text c s) buffer
+    ≡ written None (account_text c s) buffer

@@ -7,7 +7,7 @@ ghost use Rattle.code_record.specs.Record.{most_qubits};
 ghost use Rattle.sheet.specs.Text.{laid};
 ghost use Rattle.account_writer.specs.Account.{code_by, account_by, write_account};
 
-use code_record::{Code, pair_count};
+use code_record::{Code, check_qubits, pair_count};
 use correction_lines::corrections_fit;
 use corrections::radius;
 use corrections_writer::write_corrections;
@@ -15,7 +15,7 @@ use header_writer::{header_length, write_header};
 use letter_sums::LetterWords;
 use letter_words::syndrome_words;
 use reduced_rows::ReducedRows;
-use refusals::{Refusal, Written};
+use refusals::{Refusal, bytes_written};
 use rows_writer::{rows_there, write_rows};
 
 // The numbers and the canonical generators, where there is room for them.
@@ -28,8 +28,8 @@ fn code_lines(code: Code, reduced: ReducedRows, out: &mut [u8]) -> usize
 {
     let rows = reduced.rows;
     let k = pair_count(code.n, code.r);
-    let mut end = write_header(code.n, k, code.d, radius(code), out).count();
-    end += write_rows(b'h', code.n, reduced.count, rows, &mut out[end..]).count();
+    let mut end = bytes_written(write_header(code.n, k, code.d, radius(code), out));
+    end += bytes_written(write_rows(b'h', code.n, reduced.count, rows, &mut out[end..]));
     end
 }
 
@@ -46,14 +46,14 @@ fn code_length(code: Code, reduced: ReducedRows) -> usize
 fn account_fits(
     code: Code,
     reduced: ReducedRows,
-    words: LetterWords,
+    words: &LetterWords,
     syndromes: &[u8],
     room: usize,
 ) -> bool
     requires n_le_most_qubits { code.n ≤ most_qubits }
-    requires le_qubits { 2 ≤ words.qubits }
-    requires qubits_le_most_qubits { words.qubits ≤ most_qubits }
-    ensures { result ≡ leb (length (account_by code reduced words syndromes.now)) room }
+    requires le_qubits { 2 ≤ words.now.qubits }
+    requires qubits_le_most_qubits { words.now.qubits ≤ most_qubits }
+    ensures { result ≡ leb (length (account_by code reduced words.now syndromes.now)) room }
 {
     let front = code_length(code, reduced);
     if room < front {
@@ -66,20 +66,26 @@ fn account_fits(
 fn account_lines(
     code: Code,
     reduced: ReducedRows,
-    words: LetterWords,
+    words: &LetterWords,
     syndromes: &[u8],
     out: &mut [u8],
 ) -> usize
     requires le_n { 2 ≤ code.n }
     requires n_le_most_qubits { code.n ≤ most_qubits }
-    requires le_qubits { 2 ≤ words.qubits }
-    requires qubits_le_most_qubits { words.qubits ≤ most_qubits }
-    requires syndromes_in_bounds { length (account_by code reduced words syndromes.now) ≤ length out.old }
-    ensures value { result ≡ length (account_by code reduced words syndromes.now) }
-    ensures out_after { out.new ≡ laid (account_by code reduced words syndromes.now) out.old }
+    requires le_qubits { 2 ≤ words.now.qubits }
+    requires qubits_le_most_qubits { words.now.qubits ≤ most_qubits }
+    requires syndromes_in_bounds { length (account_by code reduced words.now syndromes.now) ≤ length out.old }
+    ensures value { result ≡ length (account_by code reduced words.now syndromes.now) }
+    ensures out_after { out.new ≡ laid (account_by code reduced words.now syndromes.now) out.old }
 {
     let mut end = code_lines(code, reduced, out);
-    end += write_corrections(words, radius(code), code.r, syndromes, &mut out[end..]).count();
+    end += bytes_written(write_corrections(
+        words,
+        radius(code),
+        code.r,
+        syndromes,
+        &mut out[end..],
+    ));
     end
 }
 
@@ -87,19 +93,19 @@ fn account_lines(
 // an output buffer: 15 where no code has as many qubits, then 17 where the buffer is shorter than the lines, then the
 // lines' bytes and their count. It makes no other check of the code, since who has its canonical generators has made
 // them.
-pub fn write_account(code: Code, reduced: ReducedRows, syndromes: &[u8], out: &mut [u8]) -> Written
+pub fn write_account(
+    code: Code,
+    reduced: ReducedRows,
+    syndromes: &[u8],
+    out: &mut [u8],
+) -> Result<usize, Refusal>
     ensures value { result ≡ (write_account code reduced syndromes.now out.old).answer }
     ensures out_after { out.new ≡ (write_account code reduced syndromes.now out.old).buffer }
 {
-    if code.n < 2 {
-        return Written::Refused(Refusal::RecordLimits);
-    }
-    if code_record::MOST_QUBITS < code.n {
-        return Written::Refused(Refusal::RecordLimits);
-    }
+    check_qubits(code.n)?;
     let words = syndrome_words(code);
-    if !account_fits(code, reduced, words, syndromes, out.len()) {
-        return Written::Refused(Refusal::ShortBuffer);
+    if !account_fits(code, reduced, &words, syndromes, out.len()) {
+        return Err(Refusal::ShortBuffer);
     }
-    Written::Count(account_lines(code, reduced, words, syndromes, out))
+    Ok(account_lines(code, reduced, &words, syndromes, out))
 }

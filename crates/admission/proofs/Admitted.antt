@@ -1,8 +1,8 @@
 -- An admitted sheet is the text of its record, and its claimed distance is true: w is a logical error of weight d,
 -- by 11 to 13, and the search of 14 found none below. All of it is read off the reading's clauses.
+use Rattle.std.specs.Prelude.{Option, Some, None, Ok}
 use mathlib.Core.Bool.{true, false≢true}
 use mathlib.Core.List.{List, [], ◌∷◌, append-nil}
-use mathlib.Core.Option.{Option, none, some}
 use mathlib.Core.Path.{◌≡◌, refl, ap, sym, ◌∙◌}
 use Prim.Native.Nat.{ℕ}
 use native.Mathlib.Omega.{arith}
@@ -21,7 +21,6 @@ use Rattle.stabilizer.specs.Checks.{generator_fault}
 use Rattle.stabilizer.proofs.All.{all_map, all-of, none_of}
 use Rattle.stabilizer.proofs.Faults.{nothing_then, unrefused}
 use Rattle.stabilizer.proofs.Members.{membership-is-decided}
-use Rattle.admission.specs.declared.Admission.{Admission}
 use Rattle.admission.specs.Admission.{AdmissibleButForDistance, fault_but_distance, code_fault}
 use Rattle.admission.specs.Admission.{refused_reading, admitted, reading_of, checked, read_sheet}
 use Rattle.admission.specs.Distance.{LogicalError, distance_fault}
@@ -50,25 +49,25 @@ form-lawful s q form = reads-are-lawful s q [] (form-has-nothing-behind s q [] f
 pub record AdmittedAs (s : List ℕ) (c : Code) : Type 0 where
   pub claim_at : ℕ
   pub lines : read_lines s ≡ got (record { code = c; claim_at = claim_at }) []
-  pub faultless : code_fault claim_at c ≡ none
+  pub faultless : code_fault claim_at c ≡ None
 
-admitted-has-no-fault : (c : Code) (fault : Option Refusal) → (reading_of c fault).answer ≡ Admission.Admitted
-    → fault ≡ none
+admitted-has-no-fault : (c : Code) (fault : Option Refusal) → (reading_of c fault).answer ≡ Ok tt
+    → fault ≡ None
 unfolding reading_of refused_reading
-admitted-has-no-fault c none h = refl
-admitted-has-no-fault c (some refusal) h = cc
+admitted-has-no-fault c None h = refl
+admitted-has-no-fault c (Some refusal) h = cc
 
 pub admitted-faultless : (s : List ℕ) (q : SheetRead) → read_form s ≡ got q []
-    → (read_sheet s).answer ≡ Admission.Admitted → code_fault q.claim_at q.code ≡ none
+    → (read_sheet s).answer ≡ Ok tt → code_fault q.claim_at q.code ≡ None
 unfolding read_sheet checked
 admitted-faultless s q form h =
     admitted-has-no-fault q.code _ (ap (λ (p : Parsed SheetRead). (checked p).answer) (sym form) ∙ h)
 
-pub admitted-as : (s : List ℕ) → (read_sheet s).answer ≡ Admission.Admitted → AdmittedAs s (read_sheet s).code
+pub admitted-as : (s : List ℕ) → (read_sheet s).answer ≡ Ok tt → AdmittedAs s (read_sheet s).code
 unfolding read_sheet checked reading_of refused_reading admitted
 admitted-as s = go (read_form s) refl
   where
-    go : (p : Parsed SheetRead) → read_form s ≡ p → (checked p).answer ≡ Admission.Admitted
+    go : (p : Parsed SheetRead) → read_form s ≡ p → (checked p).answer ≡ Ok tt
         → AdmittedAs s (checked p).code
     go (got q rest) form h =
         let faultless = admitted-has-no-fault q.code (code_fault q.claim_at q.code) h in
@@ -91,11 +90,11 @@ module _ (s : List ℕ) (c : Code) (a : AdmittedAs s c) where
   pub admitted-lawful : ReadIsLawful (record { code = c; claim_at = a.claim_at })
   admitted-lawful = reads-are-lawful s _ [] a.lines
 
-  no-fault : (fault_but_distance a.claim_at c ≡ none) × (distance_fault a.claim_at c ≡ none)
+  no-fault : (fault_but_distance a.claim_at c ≡ None) × (distance_fault a.claim_at c ≡ None)
   unfolding code_fault
   no-fault = nothing_then (fault_but_distance a.claim_at c) (distance_fault a.claim_at c) a.faultless
 
-  pub no-distance-fault : distance_fault a.claim_at c ≡ none
+  pub no-distance-fault : distance_fault a.claim_at c ≡ None
   no-distance-fault = no-fault.1
 
 pub admitted-sheet-returns : AdmittedSheetReturns
@@ -104,9 +103,9 @@ admitted-sheet-returns s h = rw append-nil at (write-after-read s _ [] (admitted
 -- ---- the claimed logical error
 
 -- Where 11 to 13 find nothing, w is a logical error of weight d.
-module _ (at : ℕ) (c : Code) (within : within_limits c ≡ true) (passed : fault_but_distance at c ≡ none) where
-  claim-passes : (claimed_weight_fault at c ≡ none) × (claimed_detected_fault at c ≡ none)
-      × (claimed_in_group_fault at c ≡ none)
+module _ (at : ℕ) (c : Code) (within : within_limits c ≡ true) (passed : fault_but_distance at c ≡ None) where
+  claim-passes : (claimed_weight_fault at c ≡ None) × (claimed_detected_fault at c ≡ None)
+      × (claimed_in_group_fault at c ≡ None)
   unfolding fault_but_distance
   claim-passes =
       let behind8 = (nothing_then (generator_fault (generators_at c) (generators c)) _ passed).1 in

@@ -1,7 +1,8 @@
 -- With no distance fault, what is lighter than d and commutes with every generator is in the group, phase aside: else
 -- the string of its letters would be a logical error, and the search would have found one.
+use Rattle.letters.proofs.Options.{map-none}
+use Rattle.std.specs.Prelude.{None}
 use mathlib.Core.Bool.{true, false≢true}
-use mathlib.Core.Option.{none, map-eq-none_iff}
 use mathlib.Core.Path.{◌≡◌, sym, ◌∙◌}
 use Prim.Native.Nat.{ℕ, ◌-◌, ◌≤◌, ◌<◌}
 use native.Mathlib.Decide.{dec_lt}
@@ -40,10 +41,10 @@ letters-are-searched c P h v light =
       };
     }
 
-module _ (at : ℕ) (c : Code) (faultless : distance_fault at c ≡ none) where
-  nothing-found : logical_error_up_to c (c.d - 1) ≡ none
+module _ (at : ℕ) (c : Code) (faultless : distance_fault at c ≡ None) where
+  nothing-found : logical_error_up_to c (c.d - 1) ≡ None
   unfolding distance_fault
-  nothing-found = (map-eq-none_iff _ (logical_error_up_to c (c.d - 1))).0 faultless
+  nothing-found = map-none _ (logical_error_up_to c (c.d - 1)) faultless
 
   pub logical-errors-weigh-d : (P : Pauli) → LogicalError c P → c.d ≤ weight P
   logical-errors-weigh-d P h = elim (dec_lt (weight P) c.d) [

@@ -1,8 +1,9 @@
 -- A sheet is refused with 1 to 5, for its form, or with 6 to 14, by its checks: the refusals of both are known one by
 -- one.
+use Rattle.std.specs.Prelude.{Option}
+use Rattle.std.specs.Result.{result_err}
 use mathlib.Core.Bool.{◌||◌}
 use mathlib.Core.List.{List, [], ◌∷◌}
-use mathlib.Core.Option.{Option}
 use mathlib.Core.Path.{refl, ap, ◌∙◌}
 use Prim.Native.Nat.{ℕ}
 use lib.Dec.{eqb}
@@ -17,7 +18,7 @@ use Rattle.sheet.proofs.Numbers.{IfRefused, law-of-refusal}
 use Rattle.sheet.proofs.Outcome.{Outcome, gets, stops}
 use Rattle.sheet.proofs.ReadBack.{read-form-outcome}
 use Rattle.stabilizer.proofs.Tests.{any_append}
-use Rattle.admission.specs.Admission.{refused_reading, admitted, admission_refusal, reading_of, checked, read_sheet}
+use Rattle.admission.specs.Admission.{refused_reading, admitted, reading_of, checked, read_sheet}
 use Rattle.admission.specs.Statements.{AdmissionRefusalNumbers}
 use Rattle.admission.proofs.Refusals.{OfChecks, law-of-fault, checks-refuse}
 
@@ -45,14 +46,14 @@ checks-of-sheet refusal OfChecks.thirteen = refl
 checks-of-sheet refusal (OfChecks.fourteen s) = refl
 
 reading-lawful : (c : Code) {fault : Option Refusal} → IfRefused OfSheet fault
-    → IfRefused OfSheet (admission_refusal (reading_of c fault).answer)
-unfolding reading_of admitted refused_reading admission_refusal
+    → IfRefused OfSheet (result_err (reading_of c fault).answer)
+unfolding reading_of admitted refused_reading
 reading-lawful c IfRefused.unrefused = IfRefused.unrefused
 reading-lawful c (IfRefused.refused h) = IfRefused.refused h
 
 checked-lawful : {Got : SheetRead → List ℕ → Type 0} {p : Parsed SheetRead} → Outcome Got OfForm p
-    → IfRefused OfSheet (admission_refusal (checked p).answer)
-unfolding checked refused_reading admission_refusal
+    → IfRefused OfSheet (result_err (checked p).answer)
+unfolding checked refused_reading
 checked-lawful (gets {a = q} h) =
     reading-lawful q.code (law-of-fault checks-of-sheet (checks-refuse q.claim_at q.code))
 checked-lawful (stops {refusal} h) = IfRefused.refused (form-of-sheet refusal h)

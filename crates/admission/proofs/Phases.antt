@@ -1,8 +1,8 @@
 -- An admitted code that is written is read and admitted again: what is read has the phases modulo 4, and no check
 -- sees the difference, since products, commuting and the group are the same of rows with phases modulo 4.
+use Rattle.std.specs.Prelude.{Option}
 use mathlib.Core.Bool.{true, ◌&&◌}
 use mathlib.Core.List.{List, [], ◌∷◌, ◌++◌, map, map-append, append-nil}
-use mathlib.Core.Option.{Option}
 use mathlib.Core.Path.{◌≡◌, refl, ap, ap₂, sym, fun_ext, ◌∙◌}
 use Prim.Native.Nat.{ℕ, zero, suc, ◌+◌, ◌/◌, ◌≤◌}
 use native.Mathlib.Omega.{arith}

@@ -1,7 +1,8 @@
 -- Which refusals the checks of a record give, and at which lines: 6 to 8 at the line of a generator, 9 and 10 at
 -- that of a logical, 11 to 14 at the line given for w. A check over rows goes along them, its line with it.
+use Rattle.std.specs.Prelude.{Option, Some, None}
+use Rattle.std.specs.Option.{option_map}
 use mathlib.Core.List.{List, [], ◌∷◌, ◌++◌}
-use mathlib.Core.Option.{Option, none, some, map}
 use Prim.Native.Nat.{ℕ, ◌+◌, ◌-◌, ◌≤◌, ◌<◌}
 use native.Mathlib.Omega.{arith}
 use lib.ListN.{length}
@@ -95,9 +96,9 @@ module _ (at : ℕ) (c : Code) where
   distance-refuses = go (logical_error_up_to c (c.d - 1))
     where
       go : (o : Option (List Letter))
-          → IfRefused (OfChecks at c) (map (λ s. Refusal.DistanceRefuted at (refuting_pair c.n s)) o)
-      go none = IfRefused.unrefused
-      go (some s) = IfRefused.refused (OfChecks.fourteen s)
+          → IfRefused (OfChecks at c) (option_map (λ s. Refusal.DistanceRefuted at (refuting_pair c.n s)) o)
+      go None = IfRefused.unrefused
+      go (Some s) = IfRefused.refused (OfChecks.fourteen s)
 
   pub checks-refuse : IfRefused (OfChecks at c) (code_fault at c)
   unfolding code_fault fault_but_distance generator_fault

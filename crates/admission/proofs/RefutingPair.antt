@@ -1,8 +1,11 @@
 -- The two errors of refusal 14 are halves of the earliest logical error of all: the search found it among those
 -- below d, any other is heavier and so later, and its letters are dealt out to the two.
+use Rattle.std.specs.Prelude.{Option, Some, None}
+use Rattle.std.specs.Result.{result_err}
+use Rattle.std.specs.Option.{option_map}
+use Rattle.std.proofs.lemmas.Option.{none-some, same_Some}
 use mathlib.Core.List.{List, [], ◌∷◌}
 use mathlib.Core.Logic.{◌⊎◌, inl, inr}
-use mathlib.Core.Option.{Option, none, some, map, some-injective, none-ne-some}
 use mathlib.Core.Path.{◌≡◌, refl, ap, sym, ◌∙◌}
 use Prim.Native.Nat.{ℕ, zero, suc, ◌+◌, ◌-◌, ◌/◌, ◌≤◌}
 use native.Mathlib.Decide.{dec_lt}
@@ -17,7 +20,7 @@ use Rattle.pauli.proofs.Letters.{weight-counts-letters}
 use Rattle.code_record.specs.declared.Code.{Code}
 use Rattle.refusals.specs.declared.Refusal.{Refusal}
 use Rattle.sheet.specs.Reader.{SheetRead}
-use Rattle.admission.specs.Admission.{AdmissibleButForDistance, admission_refusal}
+use Rattle.admission.specs.Admission.{AdmissibleButForDistance}
 use Rattle.admission.specs.Admission.{admitted, refused_reading, reading_of, read_sheet}
 use Rattle.admission.specs.Distance.{first_letters, other_letters, refuting_pair, logical_error_up_to, distance_fault}
 use Rattle.admission.specs.Statements.{EarliestLogical, PlusRow, Halves, ShowsEarliest}
@@ -78,7 +81,7 @@ earliest-of-all v s t light among = elim (dec_lt v (weight_of t)) [
   | no h ↦ among (omega arith)
 ]
 
-found-is-earliest : (c : Code) (v : ℕ) (s : List Letter) → logical_error_up_to c v ≡ some s → EarliestLogical c s
+found-is-earliest : (c : Code) (v : ℕ) (s : List Letter) → logical_error_up_to c v ≡ Some s → EarliestLogical c s
 found-is-earliest c v s e =
     let h = (logical-error-is-earliest c v).found s e in
     record {
@@ -88,21 +91,21 @@ found-is-earliest c v s e =
           (λ light. h.1 t (record { letters = count; light = light; logical = logical }));
     }
 
-of-record : (at : ℕ) (c : Code) (refusal : Refusal) → distance_fault at c ≡ some refusal → ShowsEarliest at c refusal
+of-record : (at : ℕ) (c : Code) (refusal : Refusal) → distance_fault at c ≡ Some refusal → ShowsEarliest at c refusal
 unfolding distance_fault
 of-record at c refusal = go (logical_error_up_to c (c.d - 1)) refl
   where
     told : List Letter → Refusal
     told s = Refusal.DistanceRefuted at (refuting_pair c.n s)
 
-    go : (o : Option (List Letter)) → logical_error_up_to c (c.d - 1) ≡ o → map told o ≡ some refusal
+    go : (o : Option (List Letter)) → logical_error_up_to c (c.d - 1) ≡ o → option_map told o ≡ Some refusal
         → ShowsEarliest at c refusal
-    go none e h = absurd (none-ne-some refusal h)
-    go (some s) e h =
+    go None e h = absurd (none-some refusal h)
+    go (Some s) e h =
         let earliest = found-is-earliest c (c.d - 1) s e in
         record {
           pair = refuting_pair c.n s;
-          told = sym (some-injective (told s) refusal h);
+          told = sym (same_Some (told s) refusal h);
           from = record {
             logical = s;
             is_earliest = earliest;
@@ -115,15 +118,15 @@ of-record at c refusal = go (logical_error_up_to c (c.d - 1)) refl
 
 -- The one refusal of a sheet that is admissible but for distance is that of its distance.
 pub refusal-is-distance-fault : (s : List ℕ) (q : SheetRead) → AdmissibleButForDistance s q → (refusal : Refusal)
-    → admission_refusal (read_sheet s).answer ≡ some refusal → distance_fault q.claim_at q.code ≡ some refusal
-unfolding reading_of admitted refused_reading admission_refusal
+    → result_err (read_sheet s).answer ≡ Some refusal → distance_fault q.claim_at q.code ≡ Some refusal
+unfolding reading_of admitted refused_reading
 refusal-is-distance-fault s q lawful refusal e =
     sym (fault-of (distance_fault q.claim_at q.code))
-    ∙ ap (λ r. admission_refusal r.answer) (sym (read-by-distance s q lawful)) ∙ e
+    ∙ ap (λ r. result_err r.answer) (sym (read-by-distance s q lawful)) ∙ e
   where
-    fault-of : (o : Option Refusal) → admission_refusal (reading_of q.code o).answer ≡ o
-    fault-of none = refl
-    fault-of (some refusal) = refl
+    fault-of : (o : Option Refusal) → result_err (reading_of q.code o).answer ≡ o
+    fault-of None = refl
+    fault-of (Some refusal) = refl
 
 pub refuting-pair-is-from-earliest : RefutingPairIsFromEarliest
 refuting-pair-is-from-earliest = record {

@@ -6,12 +6,12 @@ use Rattle.admission.specs.Logicals.{detected_fault, pairing_fault}
 use Rattle.admission.specs.Distance.{claimed_weight_fault, claimed_detected_fault, claimed_in_group_fault}
 use Rattle.admission.specs.Distance.{is_logical_error, logical_error_up_to, first_letters, other_letters}
 use Rattle.admission.specs.Distance.{refuting_pair, distance_fault}
-use Rattle.admission.specs.Admission.{fault_but_distance, code_fault, refused_reading, admitted, admission_refusal}
+use Rattle.admission.specs.Admission.{fault_but_distance, code_fault, refused_reading, admitted}
 use Rattle.admission.specs.Admission.{reading_of, checked, read_sheet}
 
 unfoldable pub definitions : Unit {0}
 unfolding logicals family_at family_after detected pairs_wrongly mispaired detected_fault pairing_fault
     claimed_weight_fault claimed_detected_fault claimed_in_group_fault is_logical_error logical_error_up_to
     first_letters other_letters refuting_pair distance_fault fault_but_distance code_fault refused_reading admitted
-    admission_refusal reading_of checked read_sheet definitions-stabilizer
+    reading_of checked read_sheet definitions-stabilizer
 definitions = tt

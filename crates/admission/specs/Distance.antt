@@ -1,6 +1,7 @@
 -- The checks of w, 11 to 13, and the distance, 14.
+use Rattle.std.specs.Prelude.{Option}
+use Rattle.std.specs.Option.{option_map}
 use Rattle.std.specs.Prelude.{Bool, true, not, ◌&&◌, List, [], ◌∷◌, ◌≡◌, ℕ, zero, suc, ◌+◌, ◌-◌, ◌/◌, ◌≤◌, eqb}
-use Rattle.std.proofs.Math.Option.{Option, map}
 use Rattle.pauli.specs.declared.Pauli.{Pauli}
 use Rattle.letters.specs.Lists.{any_of, all_of, first_of}
 use Rattle.pauli.specs.Product.{commutes, anticommutes, weight}
@@ -69,4 +70,4 @@ refuting_pair n s =
 -- RULES, "Distance": 14 where there is a logical error of weight below d.
 unfoldable pub distance_fault : ℕ → Code → Option Refusal
 distance_fault at c =
-    map (λ s. Refusal.DistanceRefuted at (refuting_pair c.n s)) (logical_error_up_to c (c.d - 1))
+    option_map (λ s. Refusal.DistanceRefuted at (refuting_pair c.n s)) (logical_error_up_to c (c.d - 1))

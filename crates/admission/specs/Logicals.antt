@@ -1,6 +1,6 @@
 -- The checks of the x and z rows, 9 and 10.
+use Rattle.std.specs.Prelude.{Option}
 use Rattle.std.specs.Prelude.{Bool, false, cond, ◌||◌, List, [], ◌∷◌, ◌++◌, ℕ, suc, ◌+◌, eqb, ltb, length}
-use Rattle.std.proofs.Math.Option.{Option}
 use Rattle.pauli.specs.declared.Pauli.{Pauli}
 use Rattle.letters.specs.Lists.{any_of}
 use Rattle.pauli.specs.Product.{commutes, anticommutes}

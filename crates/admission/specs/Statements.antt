@@ -1,6 +1,7 @@
 -- What is stated of admitted sheets and of the search for logical errors.
+use Rattle.std.specs.Prelude.{Option, Some, None, Ok, Err}
+use Rattle.std.specs.Result.{result_err}
 use Rattle.std.specs.Prelude.{true, List, [], ◌∷◌, ◌⊎◌, ◌≡◌, ℕ, ◌+◌, ◌/◌, ◌≤◌, ◌<◌, length}
-use Rattle.std.proofs.Math.Option.{Option, none, some}
 use Rattle.letters.specs.declared.Letter.{Letter}
 use Rattle.pauli.specs.declared.Pauli.{Pauli}
 use Rattle.pauli.specs.Letters.{of_letters, letters_of}
@@ -10,43 +11,41 @@ use Rattle.pauli.specs.Statements.{StringOrder}
 use Rattle.code_record.specs.declared.Code.{Code}
 use Rattle.refusals.specs.declared.ErrorPair.{ErrorPair}
 use Rattle.refusals.specs.declared.Refusal.{Refusal}
-use Rattle.refusals.specs.declared.Written.{Written}
 use Rattle.code_record.specs.Record.{claim_at, on_qubits, within_limits, Sized}
 use Rattle.sheet.specs.Reader.{SheetRead}
 use Rattle.sheet.specs.Statements.{Among, phases_modulo4}
 use Rattle.sheet.specs.Text.{laid, untouched}
 use Rattle.sheet.specs.Writer.{sheet_text, write_sheet}
-use Rattle.admission.specs.declared.Admission.{Admission}
-use Rattle.admission.specs.Admission.{AdmissibleButForDistance, admission_refusal, code_fault, admitted, read_sheet}
+use Rattle.admission.specs.Admission.{AdmissibleButForDistance, code_fault, admitted, read_sheet}
 use Rattle.admission.specs.Distance.{LogicalError, IsDistance, logical_error_up_to, refuting_pair, distance_fault}
 
 -- ---- read and written, written and read
 
 -- RULES, "Guarantees": an admitted sheet that is read and written gives the same bytes.
 abbrev pub AdmittedSheetReturns : Type 0
-AdmittedSheetReturns = (s : List ℕ) → (read_sheet s).answer ≡ Admission.Admitted → sheet_text (read_sheet s).code ≡ s
+AdmittedSheetReturns = (s : List ℕ) → (read_sheet s).answer ≡ Ok tt → sheet_text (read_sheet s).code ≡ s
 
 -- RULES, "Guarantees": an admitted code that is written and read gives the same code, with phases 0 to 3.
 abbrev pub AdmittedCodeReturns : Type 0
 AdmittedCodeReturns =
-    (c : Code) → Sized c → within_limits c ≡ true → code_fault (claim_at c) c ≡ none
+    (c : Code) → Sized c → within_limits c ≡ true → code_fault (claim_at c) c ≡ None
     → read_sheet (sheet_text c) ≡ admitted (phases_modulo4 c)
 
 -- The same of the writer's call: it writes the sheet that was read, or refuses with 17.
 pub record AdmittedSheetIsWritten : Type 0 where
-  pub whole : (s buffer : List ℕ) → (read_sheet s).answer ≡ Admission.Admitted → length s ≤ length buffer
-      → write_sheet (read_sheet s).code buffer ≡ record { answer = Written.Count (length s); buffer = laid s buffer }
-  pub short : (s buffer : List ℕ) → (read_sheet s).answer ≡ Admission.Admitted → length buffer < length s
-      → write_sheet (read_sheet s).code buffer ≡ untouched (Written.Refused Refusal.ShortBuffer) buffer
+  pub whole : (s buffer : List ℕ) → (read_sheet s).answer ≡ Ok tt → length s ≤ length buffer
+      → write_sheet (read_sheet s).code buffer ≡ record { answer = Ok (length s); buffer = laid s buffer }
+  pub short : (s buffer : List ℕ) → (read_sheet s).answer ≡ Ok tt → length buffer < length s
+      → write_sheet (read_sheet s).code buffer ≡ untouched (Err Refusal.ShortBuffer) buffer
 
 -- ---- the distance
 
 -- What a search answers: the first in the order of the strings that are wanted, or that there is none.
 pub record FindsFirst (Before : StringOrder) (Wanted : List Letter → Type 0) (answer : Option (List Letter)) : Type 0
   where
-    pub found : (s : List Letter) → answer ≡ some s
+    pub found : (s : List Letter) → answer ≡ Some s
         → Wanted s × ((t : List Letter) → Wanted t → (t ≡ s) ⊎ Before s t)
-    pub missing : answer ≡ none → (s : List Letter) → Wanted s → ⊥
+    pub missing : answer ≡ None → (s : List Letter) → Wanted s → ⊥
 
 -- The strings that the search is for: logical errors of n letters, of weight at most v.
 pub record LogicalString (c : Code) (v : ℕ) (s : List Letter) : Type 0 where
@@ -61,7 +60,7 @@ LogicalErrorIsEarliest = (c : Code) (v : ℕ) → FindsFirst Earlier (LogicalStr
 -- RULES, "Distance": the claimed distance of an admitted sheet is its distance.
 abbrev pub AdmittedDistanceIsTrue : Type 0
 AdmittedDistanceIsTrue =
-    (s : List ℕ) → (read_sheet s).answer ≡ Admission.Admitted → IsDistance (read_sheet s).code (read_sheet s).code.d
+    (s : List ℕ) → (read_sheet s).answer ≡ Ok tt → IsDistance (read_sheet s).code (read_sheet s).code.d
 
 -- ---- the two errors of refusal 14
 
@@ -98,15 +97,15 @@ pub record ShowsEarliest (at : ℕ) (c : Code) (refusal : Refusal) : Type 0 wher
 
 -- Of a record, and of a sheet that is admissible but for distance: its one refusal is 14 at w, and shows them.
 pub record RefutingPairIsFromEarliest : Type 0 where
-  pub of_record : (at : ℕ) (c : Code) (refusal : Refusal) → distance_fault at c ≡ some refusal
+  pub of_record : (at : ℕ) (c : Code) (refusal : Refusal) → distance_fault at c ≡ Some refusal
       → ShowsEarliest at c refusal
   pub of_sheet : (s : List ℕ) (q : SheetRead) (refusal : Refusal) → AdmissibleButForDistance s q
-      → admission_refusal (read_sheet s).answer ≡ some refusal → ShowsEarliest q.claim_at q.code refusal
+      → result_err (read_sheet s).answer ≡ Some refusal → ShowsEarliest q.claim_at q.code refusal
 
 -- ---- the numbers of refusals
 
 -- RULES, "Refusals": a sheet read by itself is refused with 1 to 14 and no other number.
 abbrev pub AdmissionRefusalNumbers : Type 0
 AdmissionRefusalNumbers =
-    (s : List ℕ) (refusal : Refusal) → admission_refusal (read_sheet s).answer ≡ some refusal
+    (s : List ℕ) (refusal : Refusal) → result_err (read_sheet s).answer ≡ Some refusal
     → Among (1 ∷ 2 ∷ 3 ∷ 4 ∷ 5 ∷ 6 ∷ 7 ∷ 8 ∷ 9 ∷ 10 ∷ 11 ∷ 12 ∷ 13 ∷ 14 ∷ []) refusal

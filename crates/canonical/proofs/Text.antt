@@ -1,7 +1,7 @@
 -- The text of a record's canonical generators, where the record passes 15 and 6 to 8: it is that of the rows, and the
 -- call for these then answers as that for the record.
+use Rattle.std.specs.Prelude.{None}
 use mathlib.Core.List.{List}
-use mathlib.Core.Option.{none}
 use mathlib.Core.Path.{◌≡◌, refl, ap, ap₂, ◌∙◌}
 use Prim.Native.Nat.{ℕ}
 use Rattle.letters.specs.Lists.{bytes}
@@ -21,7 +21,7 @@ use Rattle.reduced_rows.proofs.Rows.{rows_of}
 use Rattle.elimination.proofs.Passed.{passed-within}
 
 module _
-    (c : Code) (passes : none ≡ group_fault c) (hs : ReducedRows)
+    (c : Code) (passes : None ≡ group_fault c) (hs : ReducedRows)
     (found : hs ≡ reduced_of c.n (canonical_generators c.n (generators c))) where
   no-fault : qubit_fault c.n ≡ group_fault c
   no-fault =

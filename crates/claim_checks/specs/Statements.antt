@@ -1,6 +1,5 @@
 -- What is stated of the checks of w.
-use Rattle.std.specs.Prelude.{[], ◌∷◌, ◌≡◌, ℕ}
-use Rattle.std.proofs.Math.Option.{some}
+use Rattle.std.specs.Prelude.{Some, [], ◌∷◌, ◌≡◌, ℕ}
 use Rattle.code_record.specs.declared.Code.{Code}
 use Rattle.code_record.specs.Record.{generators}
 use Rattle.refusals.specs.declared.Refusal.{Refusal}
@@ -24,5 +23,5 @@ ClaimChecksAreOfAdmission =
 -- RULES, "Refusals": the numbers with which the call refuses.
 abbrev pub ClaimRefusalNumbers : Type 0
 ClaimRefusalNumbers =
-    (at : ℕ) (c : Code) (hs : ReducedRows) (refusal : Refusal) → claim_fault at c hs ≡ some refusal
+    (at : ℕ) (c : Code) (hs : ReducedRows) (refusal : Refusal) → claim_fault at c hs ≡ Some refusal
     → Among (11 ∷ 12 ∷ 13 ∷ []) refusal

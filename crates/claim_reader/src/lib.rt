@@ -6,7 +6,6 @@ ghost use Rattle.sheet.specs.Reader.{answered};
 ghost use Rattle.claim_reader.specs.Claim.{claim_after};
 
 use code_record::{Code, LinesReading};
-use refusals::Lines;
 use row_reader::RowRead;
 use rows_reader::{Logicals, Rows};
 
@@ -26,14 +25,15 @@ pub fn claim_after(
     if s.len() < from {
         return LinesReading::off_form(at);
     }
-    let RowRead::Got { used, row: w } = row_reader::claim_line(&s[from..], n) else {
+    let Some(RowRead { used, row: w }) = row_reader::claim_line(&s[from..], n) else {
         return LinesReading::off_form(at);
     };
+    // The check covers no array that a literal takes from a field, so each goes by a variable.
     let g = generators.rows;
     let x = logicals.x;
     let z = logicals.z;
     LinesReading {
-        answer: Lines::Read { used: from + used },
+        answer: Ok(from + used),
         claim_at: at,
         code: Code {
             n,

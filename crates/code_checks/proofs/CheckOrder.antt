@@ -1,17 +1,16 @@
 -- The checks of a record in their order. With canonical generators the checks of w are those of the definition, since
 -- these generators tell the group's members; and so is that of the distance. And what the answer of all checks tells.
+use Rattle.std.specs.Prelude.{Some, Option, Result, Ok, Err}
+use Rattle.std.specs.Result.{result_err}
 use mathlib.Core.List.{[]}
-use mathlib.Core.Option.{Option}
 use mathlib.Core.Path.{◌≡◌, refl, ap, ap₂, sym, ◌∙◌}
 use Prim.Native.Nat.{ℕ}
 use Rattle.code_record.specs.declared.Code.{Code}
 use Rattle.code_record.specs.Record.{generators, generators_at, limits_fault, qubit_fault}
-use Rattle.refusals.specs.declared.Checked.{Checked}
 use Rattle.refusals.specs.declared.Refusal.{Refusal}
-use Rattle.refusals.specs.Refusals.{checked_refusal, ◌then◌}
+use Rattle.refusals.specs.Refusals.{◌then◌}
 use Rattle.stabilizer.specs.Canonical.{canonical_generators}
 use Rattle.stabilizer.specs.Checks.{generator_fault, group_fault}
-use Rattle.reduced_rows.specs.declared.ReducedRows.{ReducedRows}
 use Rattle.reduced_rows.specs.Rows.{reduced_of}
 use Rattle.elimination.specs.declared.Elimination.{Elimination}
 use Rattle.elimination.specs.Answers.{eliminated, elimination}
@@ -48,14 +47,14 @@ module _ (at : ℕ) (c : Code) {e : Elimination} (known : e ≡ elimination c) w
   as-checked same =
       known ∙ ap (λ fault. eliminated fault c.n (canonical_generators c.n (generators c))) same
 
-  pub generators-refused : {refusal : Refusal} → e.answer ≡ Checked.Refused refusal → e ≡ checked_code at c
+  pub generators-refused : {refusal : Refusal} → e.answer ≡ Err refusal → e ≡ checked_code at c
   generators-refused told =
       let answered = fault-told c known refl in
       as-checked (sym answered ∙ refused-first (group_fault c) (logicals then weights) answered told ∙ whole)
 
   module _
-      (passed : e.answer ≡ Checked.Passed) (checked : Checked)
-      (found : checked_refusal checked
+      (passed : e.answer ≡ Ok tt) (checked : Result Unit Refusal)
+      (found : result_err checked
       ≡ ((qubit_fault c.n then logicals) then claim_fault at c e.reduced then distance_by at c e.reduced)) where
     -- A record that passes 6 to 8 is within limits, so the logicals are refused for no other fault than theirs.
     within : (qubit_fault c.n then logicals) ≡ logicals
@@ -74,29 +73,29 @@ module _ (at : ℕ) (c : Code) {e : Elimination} (known : e ≡ elimination c) w
         ∙ claim-checks-are-of-admission at c (elimination c).reduced (contains-decides-membership c passes c.w))
         (ap (distance_by at c) rows ∙ distance-is-checked at c passes)
 
-    pub later-decides : checked_refusal checked ≡ (limits_fault c then code_fault at c)
+    pub later-decides : result_err checked ≡ (limits_fault c then code_fault at c)
     later-decides =
         found ∙ ap₂ ◌then◌ within by_rows
         ∙ passed_first (group_fault c) (logicals then weights) (fault-told c known refl) passed ∙ whole
 
-    pub later-refused : {rows : ReducedRows} {refusal : Refusal} → checked ≡ Checked.Refused refusal
-        → rows ≡ reduced_of 0 [] → record { answer = checked; reduced = rows } ≡ checked_code at c
-    unfolding checked_code
-    later-refused told bare = refusal-answered _ _ _ told bare later-decides
+    pub later-refused : {refusal : Refusal} → checked ≡ Err refusal
+        → eliminated (Some refusal) 0 [] ≡ checked_code at c
+    unfolding checked_code eliminated
+    later-refused told = refusal-answered _ _ _ refl refl (ap result_err (sym told) ∙ later-decides)
 
-    pub later-passed : checked ≡ Checked.Passed → e ≡ checked_code at c
+    pub later-passed : checked ≡ Ok tt → e ≡ checked_code at c
     later-passed told =
-        as-checked (sym (fault-told c known passed) ∙ ap checked_refusal (sym told) ∙ later-decides)
+        as-checked (sym (fault-told c known passed) ∙ ap result_err (sym told) ∙ later-decides)
 
 -- ---- what the answer tells
 
 module _ (at : ℕ) (c : Code) {e : Elimination} (known : e ≡ checked_code at c) where
-  pub checked-fault : {checked : Checked} → e.answer ≡ checked
-      → checked_refusal checked ≡ (limits_fault c then code_fault at c)
+  pub checked-fault : {checked : Result Unit Refusal} → e.answer ≡ checked
+      → result_err checked ≡ (limits_fault c then code_fault at c)
   unfolding checked_code
   checked-fault told = fault-answered _ _ _ known told
 
-  pub checked-rows : e.answer ≡ Checked.Passed
+  pub checked-rows : e.answer ≡ Ok tt
       → e.reduced ≡ reduced_of c.n (canonical_generators c.n (generators c))
   unfolding checked_code
   checked-rows told = rows-answered _ _ _ known told

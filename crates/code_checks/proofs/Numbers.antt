@@ -1,8 +1,10 @@
 -- The numbers with which the call refuses: those of its checks, one by one. Since 14 is that of the last alone, a
 -- refusal with 14 is from there, and its two errors are those of the definition.
+use Rattle.std.specs.Prelude.{Option, Some, None}
+use Rattle.std.specs.Option.{option_map}
+use Rattle.std.proofs.lemmas.Option.{same_Some}
 use mathlib.Core.Bool.{◌||◌, false≢true}
 use mathlib.Core.List.{List, [], ◌∷◌, ◌++◌}
-use mathlib.Core.Option.{Option, none, some, map, some-injective}
 use mathlib.Core.Path.{◌≡◌, refl, ap, subst, ◌∙◌}
 use Prim.Native.Nat.{ℕ, ◌-◌}
 use lib.Dec.{eqb}
@@ -56,9 +58,9 @@ distance-lawful at c = go (logical_error_up_to c (c.d - 1))
   where
     go : (o : Option (List Letter))
         → IfRefused (Among (early ++ 14 ∷ 15 ∷ []))
-        (map (λ s. Refusal.DistanceRefuted at (refuting_pair c.n s)) o)
-    go none = IfRefused.unrefused
-    go (some s) = IfRefused.refused refl
+        (option_map (λ s. Refusal.DistanceRefuted at (refuting_pair c.n s)) o)
+    go None = IfRefused.unrefused
+    go (Some s) = IfRefused.refused refl
 
 pub code-refusal-numbers : CodeRefusalNumbers
 unfolding code_fault any_of
@@ -81,8 +83,8 @@ code-refusal-shows-earliest at c line pair e =
     (then-assoc (limits_fault c) (fault_but_distance at c) (distance_fault at c) ∙ e)
   where
     go : (earlier : Option Refusal) → IfRefused (Among (early ++ 15 ∷ [])) earlier
-        → (earlier then distance_fault at c) ≡ some (Refusal.DistanceRefuted line pair)
+        → (earlier then distance_fault at c) ≡ Some (Refusal.DistanceRefuted line pair)
         → ShowsEarliest at c (Refusal.DistanceRefuted line pair)
-    go none lawful e = refuting-pair-is-from-earliest.of_record at c _ e
-    go (some refusal) (IfRefused.refused h) e =
-        absurd (false≢true (subst (Among (early ++ 15 ∷ [])) (some-injective _ _ e) h))
+    go None lawful e = refuting-pair-is-from-earliest.of_record at c _ e
+    go (Some refusal) (IfRefused.refused h) e =
+        absurd (false≢true (subst (Among (early ++ 15 ∷ [])) (same_Some _ _ e) h))

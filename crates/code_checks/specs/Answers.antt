@@ -1,14 +1,12 @@
 -- What the checks of a record answer, in the terms of the definitions.
-use Rattle.std.specs.Prelude.{[], ℕ}
-use Rattle.std.proofs.Math.Option.{Option}
+use Rattle.std.specs.Prelude.{Option, ℕ}
+use Rattle.std.specs.Result.{result_err}
 use Rattle.code_record.specs.declared.Code.{Code}
 use Rattle.code_record.specs.Record.{generators, limits_fault, qubit_fault}
-use Rattle.refusals.specs.declared.Checked.{Checked}
 use Rattle.refusals.specs.declared.Refusal.{Refusal}
-use Rattle.refusals.specs.Refusals.{checked_refusal, ◌then◌}
+use Rattle.refusals.specs.Refusals.{◌then◌}
 use Rattle.stabilizer.specs.Canonical.{canonical_generators}
 use Rattle.reduced_rows.specs.declared.ReducedRows.{ReducedRows}
-use Rattle.reduced_rows.specs.Rows.{reduced_of}
 use Rattle.elimination.specs.declared.Elimination.{Elimination}
 use Rattle.elimination.specs.Answers.{eliminated, rows_elimination}
 use Rattle.admission.specs.Admission.{code_fault}
@@ -32,8 +30,4 @@ later_fault at c hs =
 -- alone are asked for, and then come 6 to 14. A record within its limits has the same fault as from all checks.
 unfoldable pub read_fault : ℕ → Code → Option Refusal
 read_fault at c =
-    let e = rows_elimination c.n c.r c.g in checked_refusal e.answer then later_fault at c e.reduced
-
--- An answer without canonical generators.
-abbrev pub bare_answer : Checked → Elimination
-bare_answer checked = record { answer = checked; reduced = reduced_of 0 [] }
+    let e = rows_elimination c.n c.r c.g in result_err e.answer then later_fault at c e.reduced

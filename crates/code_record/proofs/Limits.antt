@@ -1,14 +1,16 @@
 -- What the limits of a record say: the test of each limit, taken from the one test that joins them, as a fact on the
 -- record's numbers and rows.
+use Rattle.std.specs.Prelude.{Option}
+use Rattle.std.specs.List.{list_all}
 use mathlib.Core.Path.{◌≡◌, refl, ap, sym, ◌∙◌}
-use mathlib.Core.Bool.{Bool, true, false, not, ◌&&◌, ◌||◌, and-eq-true_iff, and-false, false≢true}
-use mathlib.Core.List.{List, ◌∷◌}
-use mathlib.Core.Logic.{◌⊎◌, inl, inr}
-use mathlib.Core.Option.{Option, some}
+use mathlib.Core.Bool.{Bool, true, false, not, ◌&&◌, ◌||◌, and-eq-true_iff, false≢true}
+use mathlib.Core.List.{List, [], ◌∷◌}
+use mathlib.Core.Logic.{◌⊎◌}
 use Prim.Native.Nat.{ℕ, ◌^◌, ◌≤◌, ◌<◌}
 use native.Mathlib.Omega.{arith}
-use borrow.Author.Tests.{le-leb, lt-leb, leb-true, ltb-true}
-use lib.Dec.{leb, ltb}
+use Rattle.std.proofs.lemmas.Bool.Decides.{nat_tests}
+use borrow.Author.Tests.{ltb-true}
+use lib.Dec.{ltb}
 use lib.ListN.{take, drop}
 use Rattle.pauli.specs.declared.Pauli.{Pauli}
 use Rattle.letters.specs.Lists.{all_of}
@@ -40,19 +42,24 @@ module _ {A : Type 0} (test : A → Bool) (x : A) (xs : List A) where
   pub all_cons : all_of test (x ∷ xs) ≡ true → (test x ≡ true) × (all_of test xs ≡ true)
   all_cons h = both (test x) (all_of test xs) (sym all_first ∙ h)
 
+-- The library's test of all, which joins the tests.
+pub all_listed : {A : Type 0} (test : A → Bool) (xs : List A) → all_of test xs ≡ list_all test xs
+unfolding all_of
+all_listed test [] = refl
+all_listed test (x ∷ xs) = all_first test x xs ∙ ap (λ t. test x && t) (all_listed test xs)
+
 module _ (low high m : ℕ) where
   pub between-bounds : between low high m ≡ true → (low ≤ m) × (m ≤ high)
   unfolding between
-  between-bounds h = let b = both (leb low m) (leb m high) h in omega (arith, leb-true)
+  between-bounds h = grind (arith, nat_tests)
 
   pub bounds-between : low ≤ m → m ≤ high → between low high m ≡ true
   unfolding between
-  bounds-between hl hh = rw (le-leb low m hl, le-leb m high hh)
+  bounds-between hl hh = grind (arith, nat_tests)
 
   pub outside-between : (m < low) ⊎ (high < m) → between low high m ≡ false
   unfolding between
-  outside-between (inl h) = rw (lt-leb low m h)
-  outside-between (inr h) = rw (lt-leb m high h, and-false)
+  outside-between h = grind (arith, nat_tests)
 
 pub on-qubits : (n : ℕ) (P : Pauli) → on_qubits n P ≡ true → (P.a < 2 ^ n) × (P.b < 2 ^ n)
 unfolding on_qubits
@@ -123,12 +130,7 @@ limits c h =
       claim = t.claim;
     }
 
--- 15 comes before other checks: it answers outside the limits, and they do within them.
-module _ (c : Code) (later : Option Refusal) where
-  pub outside-first : within_limits c ≡ false → some Refusal.RecordLimits ≡ (limits_fault c then later)
-  unfolding limits_fault refuse_if ◌then◌
-  outside-first outside = ap (λ t. refuse_if (not t) Refusal.RecordLimits then later) (sym outside)
-
-  pub within-later : within_limits c ≡ true → later ≡ (limits_fault c then later)
-  unfolding limits_fault refuse_if ◌then◌
-  within-later within = ap (λ t. refuse_if (not t) Refusal.RecordLimits then later) (sym within)
+-- 15 comes before other checks: it lets them answer within the limits.
+pub within-later : (c : Code) (later : Option Refusal) → within_limits c ≡ true → later ≡ (limits_fault c then later)
+unfolding limits_fault refuse_if ◌then◌
+within-later c later within = ap (λ t. refuse_if (not t) Refusal.RecordLimits then later) (sym within)

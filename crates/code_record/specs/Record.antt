@@ -1,7 +1,7 @@
 -- The code record: its sizes, its rows, its lines, its limits.
+use Rattle.std.specs.Prelude.{Option, Result}
 use Rattle.std.specs.Prelude.{Bool, not, ◌&&◌, List, ◌++◌, ◌≡◌, ℕ, ◌+◌, ◌-◌, ◌*◌, ◌/◌, ◌^◌, leb, ltb, length, take}
 use Rattle.std.specs.Prelude.{drop, replicate}
-use Rattle.std.proofs.Math.Option.{Option}
 use Rattle.pauli.specs.declared.Pauli.{Pauli}
 use Rattle.letters.specs.Lists.{all_of}
 use Rattle.pauli.specs.Product.{identity, same_pauli}
@@ -11,7 +11,6 @@ use Rattle.code_record.specs.declared.Code.{Code}
 use Rattle.code_record.specs.declared.LinesReading.{LinesReading}
 use Rattle.refusals.specs.declared.Family.{Family}
 use Rattle.refusals.specs.declared.Family.TheVariants.{Generator, LogicalX, LogicalZ}
-use Rattle.refusals.specs.declared.Lines.{Lines}
 use Rattle.refusals.specs.declared.Refusal.{Refusal}
 use Rattle.refusals.specs.Refusals.{refuse_if}
 
@@ -101,7 +100,7 @@ empty_code = record {
 }
 
 -- A refused reading: the empty record stands beside the refusal, and no line of w.
-abbrev pub empty_beside : Lines → LinesReading
+abbrev pub empty_beside : Result ℕ Refusal → LinesReading
 empty_beside answer = record { answer = answer; claim_at = 0; code = empty_code }
 
 -- A record as a machine holds it: each array has its room.

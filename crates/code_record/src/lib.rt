@@ -2,14 +2,14 @@
 #![tactic(auto)]
 
 ghost use Rattle.std.specs.Prelude.{◌≡◌, get_or};
+ghost use Rattle.std.specs.Result.{result_err};
 ghost use Rattle.pauli.specs.Product.{identity};
-ghost use Rattle.refusals.specs.declared.Lines.TheVariants.{Refused};
 ghost use Rattle.refusals.specs.declared.Refusal.TheVariants.{Form};
 ghost use Rattle.code_record.specs.Record.{pair_count, most_generators, generators_at};
-ghost use Rattle.code_record.specs.Record.{rows_of, empty_code, empty_beside};
+ghost use Rattle.code_record.specs.Record.{qubit_fault, rows_of, empty_code, empty_beside};
 
 use pauli::Pauli;
-use refusals::{Family, Lines, Refusal};
+use refusals::{Family, Refusal};
 
 // How many rows of each family a record has room for.
 pub const ROW_ROOM: usize = 32;
@@ -33,14 +33,25 @@ pub const FIRST_GENERATOR_AT: usize = 3;
 pub fn pair_count(n: usize, r: usize) -> usize
     ensures { result ≡ pair_count n r }
 {
-    if r <= n { n - r } else { 0 }
+    n.saturating_sub(r)
 }
 
 // The most generators that are read of a code of n qubits.
 pub fn most_generators(n: usize) -> usize
     ensures { result ≡ most_generators n }
 {
-    if n > 0 { n - 1 } else { 0 }
+    n.saturating_sub(1)
+}
+
+// 15 where no sheet has so many qubits.
+pub fn check_qubits(n: usize) -> Result<(), Refusal>
+    ensures { result_err result ≡ qubit_fault n }
+{
+    if (2..=MOST_QUBITS).contains(&n) {
+        Ok(())
+    } else {
+        Err(Refusal::RecordLimits)
+    }
 }
 
 // The code that a sheet describes: n qubits, r generators, claimed distance d. The first r rows of g are the
@@ -97,18 +108,19 @@ impl Code {
     }
 }
 
-// An enum holds no array, so the record stands beside the answer: all numbers 0 and all rows +I where it is a refusal.
-// `claim_at` is the line that w stands on, 0 where it is a refusal.
+// How many bytes the lines of a sheet took, or their refusal. The record stands beside the answer: all numbers 0 and
+// all rows +I where it is a refusal. `claim_at` is the line that w stands on, 0 where it is a refusal.
+// The empty record is promised, with edits that lose it: so the two stand side by side, and in no `Result<Code, _>`.
 #[derive(Clone, Copy)]
 pub struct LinesReading {
-    pub answer: Lines,
+    pub answer: Result<usize, Refusal>,
     pub claim_at: usize,
     pub code: Code,
 }
 
 impl LinesReading {
     // A refused reading: the empty record stands beside the refusal.
-    pub fn refused(answer: Lines) -> LinesReading
+    pub fn refused(answer: Result<usize, Refusal>) -> LinesReading
         ensures { result ≡ empty_beside answer }
     {
         LinesReading {
@@ -120,8 +132,8 @@ impl LinesReading {
 
     // A reading that ends at a line off its form.
     pub fn off_form(at: usize) -> LinesReading
-        ensures { result ≡ empty_beside (Refused (Form at)) }
+        ensures { result ≡ empty_beside (Err (Form at)) }
     {
-        LinesReading::refused(Lines::Refused(Refusal::Form(at)))
+        LinesReading::refused(Err(Refusal::Form(at)))
     }
 }

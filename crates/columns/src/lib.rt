@@ -14,7 +14,7 @@ use pauli::Pauli;
 fn has_one(n: u32, m: u32) -> bool
     ensures { result ≡ ltb (first_one (bits n m)) n }
 {
-    let zeros = u32::trailing_zeros(m);
+    let zeros = m.trailing_zeros();
     zeros < 32 && zeros < n
 }
 
@@ -23,7 +23,7 @@ fn first_one(n: u32, m: u32) -> u32
     ensures { result ≡ first_one (bits n m) }
 {
     if has_one(n, m) {
-        return u32::trailing_zeros(m);
+        return m.trailing_zeros();
     }
     n
 }

@@ -1,6 +1,5 @@
 -- What is stated of 6 over a record's generators.
-use Rattle.std.specs.Prelude.{List, [], ◌∷◌, ◌≡◌, ℕ, take}
-use Rattle.std.proofs.Math.Option.{some}
+use Rattle.std.specs.Prelude.{Some, List, [], ◌∷◌, ◌≡◌, ℕ, take}
 use Rattle.pauli.specs.declared.Pauli.{Pauli}
 use Rattle.refusals.specs.declared.Refusal.{Refusal}
 use Rattle.code_record.specs.Record.{first_generator_at}
@@ -10,5 +9,5 @@ use Rattle.stabilizer.specs.Checks.{first_fault, clash}
 -- RULES, "Refusals": the numbers with which the call refuses.
 abbrev pub CommutationRefusalNumbers : Type 0
 CommutationRefusalNumbers =
-    (r : ℕ) (g : List Pauli) (refusal : Refusal) → first_fault clash [] first_generator_at (take r g) ≡ some refusal
+    (r : ℕ) (g : List Pauli) (refusal : Refusal) → first_fault clash [] first_generator_at (take r g) ≡ Some refusal
     → Among (6 ∷ []) refusal

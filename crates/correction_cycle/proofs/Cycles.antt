@@ -1,5 +1,6 @@
 -- What three calls in a row tell, as the cycle that the third guarantee speaks of. The buffer between them has room for
 -- every syndrome.
+use Rattle.std.specs.Prelude.{Result, Ok}
 use mathlib.Core.List.{List}
 use mathlib.Core.Path.{◌≡◌, ap, ap₂, sym, subst, ◌∙◌}
 use Prim.Native.Nat.{ℕ, ◌≤◌, min}
@@ -7,11 +8,11 @@ use native.Mathlib.Decide.{dec_le}
 use native.Mathlib.Omega.{arith}
 use lib.ListN.{length, take}
 use lib.Seq.{take_all}
+use Rattle.refusals.specs.declared.Refusal.{Refusal}
 use Rattle.pauli.specs.declared.Pauli.{Pauli}
 use Rattle.code_record.specs.Record.{row_room}
 use Rattle.code_record.proofs.Limits.{limits}
 use Rattle.sheet.specs.Text.{After}
-use Rattle.admission.specs.declared.Admission.{Admission}
 use Rattle.admission.specs.declared.Reading.{Reading}
 use Rattle.admission.specs.Admission.{read_sheet}
 use Rattle.admission.proofs.Admitted.{admitted-as, admitted-lawful}
@@ -32,7 +33,7 @@ take_within m l = elim (dec_le m (length l)) [
 ]
 
 -- A sheet that is admitted has no more generators than a record has room for.
-admitted-fits : (s : List ℕ) → (read_sheet s).answer ≡ Admission.Admitted → (read_sheet s).code.r ≤ length zeros
+admitted-fits : (s : List ℕ) → (read_sheet s).answer ≡ Ok tt → (read_sheet s).code.r ≤ length zeros
 unfolding zeros
 admitted-fits s h =
     let l = limits (read_sheet s).code (admitted-lawful s _ (admitted-as s h)).limits in
@@ -48,8 +49,8 @@ guaranteed s E second = record {
     of : Correctable s E → Guaranteed s E second (cycle s E zeros second).decoded
     of h = end_to_end.decoded s E zeros second (admitted-fits s h.is_admitted)
 
-module _ (s second : List ℕ) (E : Pauli) (reading : Reading) (characters : List ℕ) (r : ℕ) (answer : Decoded)
-    (after : List ℕ)
+module _ (s second : List ℕ) (E : Pauli) (reading : Reading) (characters : List ℕ) (r : ℕ)
+    (answer : Result Decoded Refusal) (after : List ℕ)
     (read : reading ≡ read_sheet s)
     (measured : characters ≡ (write_syndrome reading.code E zeros).buffer)
     (size : length characters ≡ row_room)
@@ -75,7 +76,7 @@ module _ (s second : List ℕ) (E : Pauli) (reading : Reading) (characters : Lis
   buffer-is = left ∙ ap (λ after. after.buffer) decoded-is
 
   -- The decode call's answer and what it left, together.
-  abbrev outcome : After Decoded
+  abbrev outcome : After (Result Decoded Refusal)
   outcome = record { answer = answer; buffer = after }
 
   outcome-is : (cycle s E zeros second).decoded ≡ outcome

@@ -10,13 +10,14 @@ use code_record::ROW_ROOM;
 use decoder::Decoded;
 use decoding::decode;
 use pauli::Pauli;
+use refusals::Refusal;
 use rows_writer::rows_there;
 use sheet_reading::read_sheet;
 use syndrome_writer::write_syndrome;
 
 // What the decode call answers of the syndrome that an error has under a sheet. A refused sheet has the empty record,
-// which the calls refuse with 15.
-pub fn correct_error(sheet: &[u8], error: Pauli, letters: &mut [u8]) -> Decoded
+// which both calls refuse with 15, so the syndrome call's answer is passed over.
+pub fn correct_error(sheet: &[u8], error: Pauli, letters: &mut [u8]) -> Result<Decoded, Refusal>
     ensures value { result ≡ (cycle sheet.now error zeros letters.old).decoded.answer }
     ensures letters_after { letters.new ≡ (cycle sheet.now error zeros letters.old).decoded.buffer }
     ensures guaranteed { Guaranteed sheet.now error letters.old
@@ -24,7 +25,7 @@ pub fn correct_error(sheet: &[u8], error: Pauli, letters: &mut [u8]) -> Decoded
 {
     let code = read_sheet(sheet).code;
     let mut characters = [b'0'; ROW_ROOM];
-    write_syndrome(code, error, &mut characters);
+    let _ = write_syndrome(code, error, &mut characters);
     let r = rows_there(code.r);
     decode(code, &characters[..r], letters)
 }

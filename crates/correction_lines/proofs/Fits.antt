@@ -1,7 +1,7 @@
 -- Whether lines fit: the room that is left behind those that were passed, and the room that is always enough.
+use Rattle.std.specs.Prelude.{Option, Some, None}
 use mathlib.Core.Bool.{Bool, true, false, ◌&&◌}
 use mathlib.Core.List.{List, [], ◌++◌}
-use mathlib.Core.Logic.{◌⊎◌}
 use mathlib.Core.Path.{◌≡◌, refl, ap, sym, ◌∙◌}
 use Prim.Native.Nat.{ℕ, zero, suc, ◌+◌, ◌*◌, ◌-◌, ◌/◌, ◌≤◌, ◌<◌}
 use native.Mathlib.Omega.{arith}
@@ -9,9 +9,8 @@ use borrow.Author.Tests.{le-leb, lt-leb, leb-true, leb-false}
 use lib.Dec.{leb}
 use lib.ListN.{length, drop, length-append, length-drop}
 use Rattle.letter_sums.specs.declared.LetterWords.{LetterWords}
-use Rattle.code_record.specs.Record.{most_qubits}
-use Rattle.code_record.proofs.Limits.{bounds-between, outside-between}
-use Rattle.syndrome_reader.specs.declared.SyndromeRead.{SyndromeRead}
+use Rattle.code_record.specs.Record.{most_qubits, between}
+use Rattle.code_record.proofs.Limits.{bounds-between}
 use Rattle.syndrome_lines.specs.SyndromeLines.{mask_line, syndrome_length}
 use Rattle.syndrome_lines.proofs.Lines.{mask-within}
 use Rattle.corrections.specs.Corrections.{correction_by}
@@ -31,7 +30,7 @@ module _ (words : LetterWords) (t r : ℕ) (s : List ℕ) (room : ℕ) where
   left-all = record { front = []; passed = passed_none words t r s; counted = omega arith }
 
   module _ {place left : ℕ} (h : Left place left) where
-    pub fit-off : mask_line r (drop place s) ≡ SyndromeRead.Malformed → true ≡ leb (length (lines_for words t r s)) room
+    pub fit-off : mask_line r (drop place s) ≡ None → true ≡ leb (length (lines_for words t r s)) room
     fit-off e =
         let all = ap length (passed-off words t r s h.passed e) in
         sym (le-leb (length (lines_for words t r s)) room (omega (arith, all, h.counted)))
@@ -41,7 +40,7 @@ module _ (words : LetterWords) (t r : ℕ) (s : List ℕ) (room : ℕ) where
         let all = ap length (passed-all words t r s h.passed end) in
         sym (le-leb (length (lines_for words t r s)) room (omega (arith, all, h.counted)))
 
-    module _ {m : ℕ} (e : mask_line r (drop place s) ≡ SyndromeRead.Mask m) where
+    module _ {m : ℕ} (e : mask_line r (drop place s) ≡ Some m) where
       abbrev next : List ℕ
       next = line_for words t r m
 
@@ -77,16 +76,16 @@ module _ (words : LetterWords) (t r : ℕ) (low : 2 ≤ words.qubits) (high : wo
   FewFor s = length (lines_for words t r s) ≤ 27 * (length s / 4)
 
   -- A line that is read has four bytes at least.
-  shorter : (s : List ℕ) (m : ℕ) → mask_line r s ≡ SyndromeRead.Mask m → length (behind s) + 4 ≤ length s
+  shorter : (s : List ℕ) (m : ℕ) → mask_line r s ≡ Some m → length (behind s) + 4 ≤ length s
   unfolding syndrome_length
   shorter s m e = omega (arith, mask-within r s e, length-drop (r + 3) s)
 
-  few-by-line : (s : List ℕ) → ((m : ℕ) → mask_line r s ≡ SyndromeRead.Mask m → FewFor (behind s)) → FewFor s
+  few-by-line : (s : List ℕ) → ((m : ℕ) → mask_line r s ≡ Some m → FewFor (behind s)) → FewFor s
   few-by-line s next = by-line (mask_line r s) refl
     where
-      by-line : (x : SyndromeRead) → mask_line r s ≡ x → FewFor s
-      by-line SyndromeRead.Malformed e = omega (arith, ap length (lines-off words t r s e))
-      by-line (SyndromeRead.Mask m) e =
+      by-line : (x : Option ℕ) → mask_line r s ≡ x → FewFor s
+      by-line None e = omega (arith, ap length (lines-off words t r s e))
+      by-line (Some m) e =
           omega (
             arith,
             ap length (lines_more words t r s m e),
@@ -104,12 +103,9 @@ module _ (words : LetterWords) (t r : ℕ) (low : 2 ≤ words.qubits) (high : wo
 -- ---- the call
 
 module _ (words : LetterWords) (t r : ℕ) (s : List ℕ) (room : ℕ) where
-  pub fit-outside : (words.qubits < 2) ⊎ (most_qubits < words.qubits) → false ≡ corrections_fit words t r s room
+  pub fit-outside : between 2 most_qubits words.qubits ≡ false → false ≡ corrections_fit words t r s room
   unfolding corrections_fit
-  fit-outside h =
-      sym
-      (ap (λ (b : Bool). b && leb (length (corrections_text words t r s)) room)
-      (outside-between 2 most_qubits words.qubits h))
+  fit-outside h = sym (ap (λ (b : Bool). b && leb (length (corrections_text words t r s)) room) h)
 
   module _ (low : 2 ≤ words.qubits) (high : words.qubits ≤ most_qubits) where
     pub fit-counted : {fits : Bool} → fits ≡ leb (length (corrections_text words t r s)) room

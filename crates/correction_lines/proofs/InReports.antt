@@ -1,8 +1,8 @@
 -- The lines against the report's definitions: the line of one syndrome is read as its mask, whose correction by words
 -- is that of its bits; and then line by line.
+use Rattle.std.specs.Prelude.{Option, Some, None}
 use mathlib.Core.Bool.{Bool, true}
 use mathlib.Core.List.{List, [], ◌∷◌, ◌++◌, flat_map}
-use mathlib.Core.Option.{Option, none, some}
 use mathlib.Core.Path.{◌≡◌, refl, ap, ap₂, sym, ◌∙◌}
 use Prim.Native.Nat.{ℕ, ◌+◌, ◌≤◌}
 use native.Mathlib.Omega.{arith}
@@ -24,7 +24,6 @@ use Rattle.letter_words.specs.Words.{syndrome_words}
 use Rattle.decoder.specs.Correction.{correction}
 use Rattle.decoder.proofs.Earliest.{correction-is-earliest}
 use Rattle.decoder.proofs.StringText.{string-text}
-use Rattle.syndrome_reader.specs.declared.SyndromeRead.{SyndromeRead}
 use Rattle.corrections.specs.Corrections.{correction_of, correction_by}
 use Rattle.corrections.proofs.ByValue.{corrections-by-value, qubits-have-words}
 use Rattle.reporting.specs.Report.{correction_value, correction_line}
@@ -53,8 +52,8 @@ module _ (c : Code) (sized : Sized c) (within : within_limits c ≡ true) where
       where
         by-found : (found : Option (List Letter)) → correction c bits ≡ found
             → correction_text c.n (correction_of found) ≡ line "c=" (correction_value found)
-        by-found none e = refl
-        by-found (some s) e =
+        by-found None e = refl
+        by-found (Some s) e =
             letters-keyed "c=" 99 c.n (of_letters s) refl
             ∙ ap (line "c=") (string-text c.n s ((correction-is-earliest c bits).found s e).0.letters)
 
@@ -78,18 +77,18 @@ module _ (c : Code) (sized : Sized c) (within : within_limits c ≡ true) where
         -- Its line is read as its mask, and the rest stands behind it.
         abbrev IsRead : Type 0
         IsRead =
-            (mask_line c.r text ≡ SyndromeRead.Mask (mask_of_bits bits)) × (drop (syndrome_length c.r) text ≡ rest)
+            (mask_line c.r text ≡ Some (mask_of_bits bits)) × (drop (syndrome_length c.r) text ≡ rest)
 
         line-masked : IsRead
         unfolding line_fault
         line-masked = by-line (mask_line c.r text) refl
           where
-            by-line : (x : SyndromeRead) → mask_line c.r text ≡ x → IsRead
-            by-line (SyndromeRead.Mask m) e =
+            by-line : (x : Option ℕ) → mask_line c.r text ≡ x → IsRead
+            by-line (Some m) e =
                 let told = syndrome-lines-are-read.line c 0 text m e in
                 let same = same_line (sym told.1 ∙ line_read c 0 bits rest count) in
-                (e ∙ ap SyndromeRead.Mask (told.2 ∙ ap mask_of_bits same.0), same.1)
-            by-line SyndromeRead.Malformed e =
+                (e ∙ ap Some (told.2 ∙ ap mask_of_bits same.0), same.1)
+            by-line None e =
                 let off = syndrome-lines-are-read.malformed c 0 text _ few (ap (line_fault 0) e) in
                 absurd (not_stopped (sym (line_read c 0 bits rest count) ∙ off))
 

@@ -1,5 +1,6 @@
 -- The `c=` lines one by one: the line for a syndrome that is read stands before those of the rest. And what a loop has
 -- passed: the lines of the syndromes up to a place, before those behind it.
+use Rattle.std.specs.Prelude.{Option, Some, None}
 use mathlib.Core.List.{List, [], ◌++◌, append_assoc, append-nil}
 use mathlib.Core.Path.{◌≡◌, refl, ap, sym, ◌∙◌}
 use Prim.Native.Nat.{ℕ, zero, suc, ◌+◌, ◌≤◌}
@@ -7,7 +8,6 @@ use native.Mathlib.Omega.{arith}
 use lib.ListN.{length, drop, length-drop, drop_of_length-le}
 use lib.Seq.{drop-drop}
 use Rattle.letter_sums.specs.declared.LetterWords.{LetterWords}
-use Rattle.syndrome_reader.specs.declared.SyndromeRead.{SyndromeRead}
 use Rattle.syndrome_lines.specs.SyndromeLines.{mask_line, syndrome_length}
 use Rattle.syndrome_lines.proofs.Lines.{mask-within}
 use Rattle.corrections.specs.Corrections.{correction_by}
@@ -24,20 +24,20 @@ module _ (words : LetterWords) (t r : ℕ) where
 
   -- ---- the bound on the lines
 
-  same-later : (x : SyndromeRead) (later later' : List ℕ) → ((m : ℕ) → x ≡ SyndromeRead.Mask m → later ≡ later')
+  same-later : (x : Option ℕ) (later later' : List ℕ) → ((m : ℕ) → x ≡ Some m → later ≡ later')
       → answered words t x later ≡ answered words t x later'
   unfolding answered
-  same-later SyndromeRead.Malformed later later' same = refl
-  same-later (SyndromeRead.Mask m) later later' same = ap (λ (l : List ℕ). line_for m ++ l) (same m refl)
+  same-later None later later' same = refl
+  same-later (Some m) later later' same = ap (λ (l : List ℕ). line_for m ++ l) (same m refl)
 
-  nothing_read : (x : SyndromeRead) (later : List ℕ) → ((m : ℕ) → x ≡ SyndromeRead.Mask m → ⊥)
+  nothing_read : (x : Option ℕ) (later : List ℕ) → ((m : ℕ) → x ≡ Some m → ⊥)
       → answered words t x later ≡ []
   unfolding answered
-  nothing_read SyndromeRead.Malformed later none = refl
-  nothing_read (SyndromeRead.Mask m) later none = absurd (none m refl)
+  nothing_read None later none = refl
+  nothing_read (Some m) later none = absurd (none m refl)
 
   -- A line that is read has bytes.
-  some_bytes : (s : List ℕ) (m : ℕ) → mask_line r s ≡ SyndromeRead.Mask m
+  some_bytes : (s : List ℕ) (m : ℕ) → mask_line r s ≡ Some m
       → length (drop (syndrome_length r) s) + 3 ≤ length s
   unfolding syndrome_length
   some_bytes s m e = omega (arith, mask-within r s e, length-drop (r + 3) s)
@@ -69,13 +69,13 @@ module _ (words : LetterWords) (t r : ℕ) where
   unfolding corrections_text correction_lines
   lines-ended = refl
 
-  pub lines-off : (s : List ℕ) → mask_line r s ≡ SyndromeRead.Malformed → lines_for s ≡ []
+  pub lines-off : (s : List ℕ) → mask_line r s ≡ None → lines_for s ≡ []
   unfolding answered
   lines-off s e =
       one_more s
       ∙ ap (λ x. answered words t x (correction_lines (length s) words t r (drop (syndrome_length r) s))) e
 
-  pub lines_more : (s : List ℕ) (m : ℕ) → mask_line r s ≡ SyndromeRead.Mask m
+  pub lines_more : (s : List ℕ) (m : ℕ) → mask_line r s ≡ Some m
       → lines_for s ≡ line_for m ++ lines_for (drop (syndrome_length r) s)
   unfolding answered corrections_text
   lines_more s m e =
@@ -97,12 +97,12 @@ module _ (words : LetterWords) (t r : ℕ) where
 
     module _ {place : ℕ} {front : List ℕ} (h : Passed s place front) where
       -- The line at the place is within the bytes.
-      pub line-within : {m : ℕ} → mask_line r (drop place s) ≡ SyndromeRead.Mask m → place + (r + 3) ≤ length s
+      pub line-within : {m : ℕ} → mask_line r (drop place s) ≡ Some m → place + (r + 3) ≤ length s
       unfolding syndrome_length
       line-within e = omega (arith, mask-within r (drop place s) e, length-drop place s, h.within)
 
       -- The line for it is the next of the whole.
-      pub next-line : {m : ℕ} → mask_line r (drop place s) ≡ SyndromeRead.Mask m
+      pub next-line : {m : ℕ} → mask_line r (drop place s) ≡ Some m
           → (front ++ line_for m) ++ lines_for (drop (place + (r + 3)) s) ≡ lines_for s
       unfolding syndrome_length
       next-line {m} e =
@@ -110,11 +110,11 @@ module _ (words : LetterWords) (t r : ℕ) where
           ∙ ap (λ (rest : List ℕ). front ++ (line_for m ++ lines_for rest)) (sym (drop-drop (r + 3) place s))
           ∙ ap (λ (l : List ℕ). front ++ l) (sym (lines_more (drop place s) m e)) ∙ h.whole
 
-      pub passed-more : {m : ℕ} → mask_line r (drop place s) ≡ SyndromeRead.Mask m
+      pub passed-more : {m : ℕ} → mask_line r (drop place s) ≡ Some m
           → Passed s (place + (r + 3)) (front ++ line_for m)
       passed-more e = record { within = line-within e; whole = next-line e }
 
-      pub passed-off : mask_line r (drop place s) ≡ SyndromeRead.Malformed → front ≡ lines_for s
+      pub passed-off : mask_line r (drop place s) ≡ None → front ≡ lines_for s
       passed-off e =
           sym (append-nil front) ∙ ap (λ (l : List ℕ). front ++ l) (sym (lines-off (drop place s) e)) ∙ h.whole
 

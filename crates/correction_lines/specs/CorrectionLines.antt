@@ -1,17 +1,16 @@
 -- The `c=` lines of a report, by the words of a code's letters.
-use Rattle.std.specs.Prelude.{Bool, ◌&&◌, List, [], ◌++◌, ℕ, zero, suc, leb, length, drop}
+use Rattle.std.specs.Prelude.{Option, Some, None, Bool, ◌&&◌, List, [], ◌++◌, ℕ, zero, suc, leb, length, drop}
 use Rattle.code_record.specs.Record.{most_qubits, between}
 use Rattle.letter_sums.specs.declared.LetterWords.{LetterWords}
-use Rattle.syndrome_reader.specs.declared.SyndromeRead.{SyndromeRead}
 use Rattle.syndrome_lines.specs.SyndromeLines.{mask_line, syndrome_length}
 use Rattle.corrections.specs.Corrections.{correction_by}
 use Rattle.correction_writer.specs.Lines.{correction_text}
 
 -- The line of the correction for a syndrome that was read, before those that follow. Where none was read nothing
 -- follows.
-unfoldable pub answered : LetterWords → ℕ → SyndromeRead → List ℕ → List ℕ
-answered words t SyndromeRead.Malformed later = []
-answered words t (SyndromeRead.Mask m) later = correction_text words.qubits (correction_by words t m) ++ later
+unfoldable pub answered : LetterWords → ℕ → Option ℕ → List ℕ → List ℕ
+answered words t None later = []
+answered words t (Some m) later = correction_text words.qubits (correction_by words t m) ++ later
 
 -- RULES, "The report": a `c=` line for each `s=` line. So many at most.
 unfoldable pub correction_lines : ℕ → LetterWords → ℕ → ℕ → List ℕ → List ℕ

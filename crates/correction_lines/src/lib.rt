@@ -7,10 +7,10 @@ ghost use Rattle.correction_writer.specs.Lines.{correction_text};
 ghost use Rattle.correction_lines.specs.CorrectionLines.{corrections_text, corrections_fit};
 
 use code_record::MOST_QUBITS;
-use corrections::{Correction, correct_by};
+use corrections::correct_by;
 use letter_sums::LetterWords;
+use pauli::Pauli;
 use syndrome_lines::read_syndrome_line;
-use syndrome_reader::SyndromeRead;
 
 // The shortest `s=` line, of one generator.
 const SHORTEST_SYNDROME: usize = 4;
@@ -19,31 +19,29 @@ const SHORTEST_SYNDROME: usize = 4;
 const LONGEST_CORRECTION: usize = 27;
 
 // How many bytes the line of a correction on n qubits has.
-fn line_length(n: usize, correction: Correction) -> usize
+fn line_length(n: usize, correction: Option<Pauli>) -> usize
     requires { n ≤ most_qubits }
     ensures { result ≡ length (correction_text n correction) }
 {
     match correction {
-        Correction::Found(_) => n + 3,
-        Correction::None => 7,
+        Some(_) => n + 3,
+        None => 7,
     }
 }
 
-// Whether the lines of the corrections fit, each correction being searched for.
-fn lines_fit(words: LetterWords, t: usize, r: usize, syndromes: &[u8], room: usize) -> bool
-    requires { words.qubits ≤ most_qubits }
-    ensures { result ≡ leb (length (corrections_text words t r syndromes.now)) room }
+// Whether the lines of the corrections fit, each correction being searched for. The loop goes on by each line that was
+// read, so it is no `for`.
+fn lines_fit(words: &LetterWords, t: usize, r: usize, syndromes: &[u8], room: usize) -> bool
+    requires { words.now.qubits ≤ most_qubits }
+    ensures { result ≡ leb (length (corrections_text words.now t r syndromes.now)) room }
 {
     let mut left = room;
     let mut place: usize = 0;
     while place < syndromes.len() {
-        let SyndromeRead::Mask(syndrome) = read_syndrome_line(&syndromes[place..], r) else {
+        let Some(syndrome) = read_syndrome_line(&syndromes[place..], r) else {
             return true;
         };
-        let length = line_length(
-            words.qubits,
-            correct_by(&words.first, &words.second, words.qubits, t, syndrome),
-        );
+        let length = line_length(words.qubits, correct_by(words, t, syndrome));
         if left < length {
             return false;
         }
@@ -58,24 +56,19 @@ fn lines_fit(words: LetterWords, t: usize, r: usize, syndromes: &[u8], room: usi
 // longest line behind every syndrome nothing is searched for. With r = 0, which no record has, an `s=` line is shorter
 // than that counts, so the lines are counted one by one.
 pub fn corrections_fit(
-    words: LetterWords,
+    words: &LetterWords,
     t: usize,
     r: usize,
     syndromes: &[u8],
     room: usize,
 ) -> bool
-    ensures { result ≡ corrections_fit words t r syndromes.now room }
+    ensures { result ≡ corrections_fit words.now t r syndromes.now room }
 {
-    if words.qubits < 2 {
+    if !(2..=MOST_QUBITS).contains(&words.qubits) {
         return false;
     }
-    if MOST_QUBITS < words.qubits {
-        return false;
-    }
-    if 1 <= r {
-        if syndromes.len() / SHORTEST_SYNDROME <= room / LONGEST_CORRECTION {
-            return true;
-        }
+    if 1 <= r && syndromes.len() / SHORTEST_SYNDROME <= room / LONGEST_CORRECTION {
+        return true;
     }
     lines_fit(words, t, r, syndromes, room)
 }

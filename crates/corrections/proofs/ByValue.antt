@@ -1,8 +1,8 @@
 -- A correction by value is that of the definition. The two searches go through the same strings, and where syndromes
 -- have equally many bits their masks are equal exactly where their bits are.
+use Rattle.std.specs.Prelude.{Option, Some, None}
 use mathlib.Core.Bool.{Bool, true, false, true≢false}
 use mathlib.Core.List.{List}
-use mathlib.Core.Option.{Option, none, some}
 use mathlib.Core.Path.{◌≡◌, refl, ap, sym, ◌∙◌}
 use Prim.Native.Nat.{ℕ, ◌^◌, ◌≤◌}
 use native.Mathlib.Omega.{arith}
@@ -34,8 +34,8 @@ use Rattle.corrections.specs.Statements.{CorrectionsByValue}
 
 pub of-masks : (found : Option (List Letter)) → of_masks (found_as found) ≡ correction_of found
 unfolding of_masks found_as correction_of of_letters signed_row
-of-masks none = refl
-of-masks (some s) = refl
+of-masks None = refl
+of-masks (Some s) = refl
 
 by-words : (c : Code) (mask : ℕ) → correction_by (syndrome_words c) (radius c) mask ≡ correction_for c mask
 unfolding correction_by correction_for
@@ -76,14 +76,14 @@ module _ (c : Code) (bits : List Bool) (count : length bits ≡ length (generato
 -- ---- of masks above
 
 -- The syndromes of all strings are below the mask, so no string has it.
-nothing_above : (c : Code) (mask : ℕ) → 2 ^ length (generators c) ≤ mask → earliest_with c (radius c) mask ≡ none
+nothing_above : (c : Code) (mask : ℕ) → 2 ^ length (generators c) ≤ mask → earliest_with c (radius c) mask ≡ None
 unfolding earliest_with
 nothing_above c mask above = go (earliest_with c (radius c) mask) refl
   where
     go : (found : Option (List Letter)) → earliest_with c (radius c) mask ≡ found
-        → earliest_with c (radius c) mask ≡ none
-    go none e = e
-    go (some s) e =
+        → earliest_with c (radius c) mask ≡ None
+    go None e = e
+    go (Some s) e =
         let first = first-is-earliest _ (strings_up_to (word_qubits c) (radius c))
         (strings_up_to-listed (word_qubits c) (radius c)) s e in
         let same = eqb-true (syndrome_mask (generators c) (of_letters s)) mask first.passes in

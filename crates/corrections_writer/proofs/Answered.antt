@@ -1,4 +1,5 @@
 -- What the loop has written: the lines for the syndromes that were passed. And what the call answers.
+use Rattle.std.specs.Prelude.{Some, None}
 use mathlib.Core.List.{List, [], ◌++◌}
 use mathlib.Core.Path.{◌≡◌, ap, ◌∙◌}
 use Prim.Native.Nat.{ℕ, ◌+◌, ◌≤◌}
@@ -7,7 +8,6 @@ use lib.ListN.{length, drop, length-append}
 use Rattle.sheet.specs.Text.{laid}
 use Rattle.sheet.proofs.Laid.{lent, back, length-lent, Holds, holds-nothing, holds_more}
 use Rattle.letter_sums.specs.declared.LetterWords.{LetterWords}
-use Rattle.syndrome_reader.specs.declared.SyndromeRead.{SyndromeRead}
 use Rattle.syndrome_lines.specs.SyndromeLines.{mask_line}
 use Rattle.correction_lines.proofs.Lines.{line_for, lines_for, Passed, passed_none, passed-more, next-line}
 use Rattle.correction_lines.proofs.Lines.{passed-off, passed-all}
@@ -31,14 +31,14 @@ module _ (words : LetterWords) (t r : ℕ) (s buffer : List ℕ) where
     whole e =
         (h.held.count ∙ ap length e, h.held.content ∙ ap (λ (l : List ℕ). laid l buffer) e)
 
-    pub answered-off : mask_line r (drop place s) ≡ SyndromeRead.Malformed
+    pub answered-off : mask_line r (drop place s) ≡ None
         → (end ≡ length text) × (out ≡ laid text buffer)
     answered-off e = whole (passed-off words t r s h.passed e)
 
     pub answered-all : length s ≤ place → (end ≡ length text) × (out ≡ laid text buffer)
     answered-all all = whole (passed-all words t r s h.passed all)
 
-    module _ {m : ℕ} (e : mask_line r (drop place s) ≡ SyndromeRead.Mask m) (fits : length text ≤ length buffer) where
+    module _ {m : ℕ} (e : mask_line r (drop place s) ≡ Some m) (fits : length text ≤ length buffer) where
       abbrev next : List ℕ
       next = line_for words t r m
 

@@ -7,36 +7,37 @@ ghost use Rattle.sheet.specs.Text.{laid};
 ghost use Rattle.correction_lines.specs.CorrectionLines.{corrections_text};
 ghost use Rattle.corrections_writer.specs.Corrections.{write_corrections};
 
+use code_record::check_qubits;
 use correction_lines::corrections_fit;
 use correction_writer::write_correction;
 use corrections::correct_by;
 use letter_sums::LetterWords;
-use refusals::{Refusal, Written};
+use refusals::{Refusal, bytes_written};
 use syndrome_lines::read_syndrome_line;
-use syndrome_reader::SyndromeRead;
 
-// The lines, where there is room for them. Each is written from the end of the one before it onward.
+// The lines, where there is room for them. Each is written from the end of the one before it onward. The loop goes on
+// by each line that was read, so it is no `for`.
 fn correction_lines(
-    words: LetterWords,
+    words: &LetterWords,
     t: usize,
     r: usize,
     syndromes: &[u8],
     out: &mut [u8],
 ) -> usize
-    requires le_qubits { 2 ≤ words.qubits }
-    requires qubits_le_most_qubits { words.qubits ≤ most_qubits }
-    requires syndromes_in_bounds { length (corrections_text words t r syndromes.now) ≤ length out.old }
-    ensures value { result ≡ length (corrections_text words t r syndromes.now) }
-    ensures out_after { out.new ≡ laid (corrections_text words t r syndromes.now) out.old }
+    requires le_qubits { 2 ≤ words.now.qubits }
+    requires qubits_le_most_qubits { words.now.qubits ≤ most_qubits }
+    requires syndromes_in_bounds { length (corrections_text words.now t r syndromes.now) ≤ length out.old }
+    ensures value { result ≡ length (corrections_text words.now t r syndromes.now) }
+    ensures out_after { out.new ≡ laid (corrections_text words.now t r syndromes.now) out.old }
 {
     let mut end: usize = 0;
     let mut place: usize = 0;
     while place < syndromes.len() {
-        let SyndromeRead::Mask(syndrome) = read_syndrome_line(&syndromes[place..], r) else {
+        let Some(syndrome) = read_syndrome_line(&syndromes[place..], r) else {
             return end;
         };
-        let correction = correct_by(&words.first, &words.second, words.qubits, t, syndrome);
-        end += write_correction(words.qubits, correction, &mut out[end..]).count();
+        let correction = correct_by(words, t, syndrome);
+        end += bytes_written(write_correction(words.qubits, correction, &mut out[end..]));
         place += r + 3;
     }
     end
@@ -46,23 +47,18 @@ fn correction_lines(
 // has as many qubits as have words, then 17 where the buffer is shorter than the lines, then the lines' bytes and their
 // count.
 pub fn write_corrections(
-    words: LetterWords,
+    words: &LetterWords,
     t: usize,
     r: usize,
     syndromes: &[u8],
     out: &mut [u8],
-) -> Written
-    ensures value { result ≡ (write_corrections words t r syndromes.now out.old).answer }
-    ensures out_after { out.new ≡ (write_corrections words t r syndromes.now out.old).buffer }
+) -> Result<usize, Refusal>
+    ensures value { result ≡ (write_corrections words.now t r syndromes.now out.old).answer }
+    ensures out_after { out.new ≡ (write_corrections words.now t r syndromes.now out.old).buffer }
 {
-    if words.qubits < 2 {
-        return Written::Refused(Refusal::RecordLimits);
-    }
-    if code_record::MOST_QUBITS < words.qubits {
-        return Written::Refused(Refusal::RecordLimits);
-    }
+    check_qubits(words.qubits)?;
     if !corrections_fit(words, t, r, syndromes, out.len()) {
-        return Written::Refused(Refusal::ShortBuffer);
+        return Err(Refusal::ShortBuffer);
     }
-    Written::Count(correction_lines(words, t, r, syndromes, out))
+    Ok(correction_lines(words, t, r, syndromes, out))
 }

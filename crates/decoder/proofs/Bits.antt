@@ -1,8 +1,9 @@
 -- A syndrome has as many bits as there are generators, its characters are read as those bits, and what is read as
 -- bits is their characters. Each goes row by row or character by character.
+use Rattle.std.specs.Prelude.{Some, None}
+use Rattle.std.proofs.lemmas.Option.{none-some}
 use mathlib.Core.Bool.{Bool, true, false, cond}
 use mathlib.Core.List.{List, map}
-use mathlib.Core.Option.{none, some, none-ne-some}
 use mathlib.Core.Path.{◌≡◌, refl, ap, sym, ◌∙◌}
 use Prim.Native.Nat.{ℕ}
 use borrow.Author.Tests.{eq-eqb, eqb-true}
@@ -36,35 +37,35 @@ syndromes-have-r-bits = record {
 
 -- ---- bits and characters
 
-bit-read : (b : Bool) → read_bit (bit_byte b) ≡ some b
+bit-read : (b : Bool) → read_bit (bit_byte b) ≡ Some b
 unfolding read_bit read_byte first_of bit_byte
 bit-read true = refl
 bit-read false = refl
 
 -- The characters of r bits are read as those bits.
-pub syndrome-read : (r : ℕ) (bits : List Bool) → length bits ≡ r → read_syndrome r (syndrome_text bits) ≡ some bits
+pub syndrome-read : (r : ℕ) (bits : List Bool) → length bits ≡ r → read_syndrome r (syndrome_text bits) ≡ Some bits
 unfolding read_syndrome syndrome_text
 syndrome-read r bits count =
     rw (eq-eqb (length (map bit_byte bits)) r (length-map bits bit_byte ∙ count))
     (each_read bit_byte read_bit bit-read bits)
 
 -- What is read as a syndrome has r characters.
-pub read_length : (r : ℕ) (v : List ℕ) (bits : List Bool) → read_syndrome r v ≡ some bits → length v ≡ r
+pub read_length : (r : ℕ) (v : List ℕ) (bits : List Bool) → read_syndrome r v ≡ Some bits → length v ≡ r
 unfolding read_syndrome
 read_length r v bits h = eqb-true (length v) r (go (eqb (length v) r) h)
   where
-    go : (test : Bool) → cond test (read_each read_bit v) none ≡ some bits → test ≡ true
+    go : (test : Bool) → cond test (read_each read_bit v) None ≡ Some bits → test ≡ true
     go true h = refl
-    go false h = absurd (none-ne-some bits h)
+    go false h = absurd (none-some bits h)
 
 -- What is read as bits is the characters of r bits.
-pub syndrome-written : (r : ℕ) (v : List ℕ) (bits : List Bool) → length v ≡ r → read_syndrome r v ≡ some bits
+pub syndrome-written : (r : ℕ) (v : List ℕ) (bits : List Bool) → length v ≡ r → read_syndrome r v ≡ Some bits
     → (length bits ≡ r) × (v ≡ syndrome_text bits)
 unfolding read_syndrome syndrome_text read_bit
 syndrome-written r v bits count e = (sym (length-map bits bit_byte) ∙ sym (ap length text) ∙ count, text)
   where
-    each : read_each read_bit v ≡ some bits
-    each = ap (λ t. cond t (read_each read_bit v) none) (sym (eq-eqb (length v) r count)) ∙ e
+    each : read_each read_bit v ≡ Some bits
+    each = ap (λ t. cond t (read_each read_bit v) None) (sym (eq-eqb (length v) r count)) ∙ e
 
     text : v ≡ map bit_byte bits
     text = each-written bit_byte read_bit (read_byte-byte bit_byte _) v each

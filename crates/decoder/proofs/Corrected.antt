@@ -1,10 +1,10 @@
 -- An error of weight at most t is corrected. Its own letters are a candidate, so there is a correction, no heavier.
 -- The two together weigh less than d, and their product commutes with every generator; with no distance fault it is
 -- in the group.
+use Rattle.std.specs.Prelude.{Option, Some, None}
 use mathlib.Core.Bool.{Bool, true}
 use mathlib.Core.List.{List}
 use mathlib.Core.Logic.{◌⊎◌, inl, inr}
-use mathlib.Core.Option.{Option, none, some}
 use mathlib.Core.Path.{◌≡◌, refl, ap}
 use Prim.Native.Nat.{ℕ, ◌≤◌}
 use native.Mathlib.Omega.{arith}
@@ -38,7 +38,7 @@ earlier-is-no-heavier s t (inr (inl h)) = omega arith
 earlier-is-no-heavier s t (inr (inr h)) = omega arith
 
 module _
-    (at : ℕ) (c : Code) (sized : Sized c) (within : within_limits c ≡ true) (faultless : distance_fault at c ≡ none)
+    (at : ℕ) (c : Code) (sized : Sized c) (within : within_limits c ≡ true) (faultless : distance_fault at c ≡ None)
     (E : Pauli) (on : on_qubits c.n E ≡ true) (light : weight E ≤ radius c) where
   abbrev bits : List Bool
   bits = syndrome (generators c) E
@@ -56,7 +56,7 @@ module _
     matches = syndrome-by-masks (generators c) (of_letters own) E (letters-keep-masks c.n E on);
   }
 
-  module _ (s : List Letter) (found : correction c bits ≡ some s) where
+  module _ (s : List Letter) (found : correction c bits ≡ Some s) where
     candidate : Candidate c bits s
     candidate = ((correction-is-earliest c bits).found s found).0
 
@@ -95,5 +95,5 @@ module _
   error-is-corrected = go (correction c bits) refl
     where
       go : (o : Option (List Letter)) → correction c bits ≡ o → IsCorrected c E
-      go none e = absurd ((correction-is-earliest c bits).missing e own own-candidate)
-      go (some s) e = is-corrected s e
+      go None e = absurd ((correction-is-earliest c bits).missing e own own-candidate)
+      go (Some s) e = is-corrected s e

@@ -3,10 +3,12 @@
 -- the characters of E's syndrome on the first buffer, whose first r bytes are then these characters; `Guarantee` says
 -- what the decode call makes of them. No line and no check but that of the distance refuses with 14. So a sheet that is
 -- refused with it is admissible but for distance, and `Guarantee` says what its two errors are.
+use Rattle.std.specs.Prelude.{Option, Some, None, Ok, Err}
+use Rattle.std.specs.Result.{result_err}
+use Rattle.std.proofs.lemmas.Option.{same_Some}
 use mathlib.Core.Bool.{Bool, false, true≢false, false≢true}
 use mathlib.Core.List.{List, []}
 use mathlib.Core.Logic.{◌⊎◌, inl, inr, ⊎_elim}
-use mathlib.Core.Option.{Option, none, some, some-injective}
 use mathlib.Core.Path.{◌≡◌, refl, ap, sym, subst, ◌∙◌}
 use Prim.Native.Nat.{ℕ, ◌≤◌, ◌<◌}
 use native.Mathlib.Decide.{dec_lt}
@@ -21,14 +23,13 @@ use Rattle.code_record.specs.declared.Code.{Code}
 use Rattle.refusals.specs.declared.ErrorPair.{ErrorPair}
 use Rattle.refusals.specs.declared.Refusal.{Refusal}
 use Rattle.code_record.specs.Record.{generators, generators_at, logicals_at}
-use Rattle.refusals.specs.Refusals.{values, lines_refusal, ◌then◌}
+use Rattle.refusals.specs.Refusals.{values, ◌then◌}
 use Rattle.sheet.specs.Reader.{Parsed, SheetRead, got, stop, nothing_behind, read_form, answered, form_reading}
 use Rattle.sheet.specs.Text.{laid, untouched}
 use Rattle.sheet.proofs.Numbers.{IfRefused, law-of-refusal, refuse_if-lawful, then-lawful, sheet-refusal-numbers}
 use Rattle.sheet.proofs.Reading.{then-got}
 use Rattle.stabilizer.proofs.Theorems.{first-lawful, generators-lawful}
-use Rattle.admission.specs.declared.Admission.{Admission}
-use Rattle.admission.specs.Admission.{AdmissibleButForDistance, fault_but_distance, code_fault, admission_refusal}
+use Rattle.admission.specs.Admission.{AdmissibleButForDistance, fault_but_distance, code_fault}
 use Rattle.admission.specs.Admission.{admitted, refused_reading, reading_of, checked, read_sheet}
 use Rattle.admission.specs.Distance.{claimed_weight_fault, claimed_detected_fault, claimed_in_group_fault}
 use Rattle.admission.specs.Distance.{distance_fault}
@@ -36,7 +37,6 @@ use Rattle.admission.specs.Logicals.{detected, mispaired, logicals, detected_fau
 use Rattle.admission.proofs.Admitted.{admitted-as, admitted-lawful, form-has-nothing-behind, read-by-distance}
 use Rattle.admission.proofs.RefutingPair.{refusal-is-distance-fault, refuting-pair-is-from-earliest}
 use Rattle.decoder.specs.declared.Decoded.{Decoded}
-use Rattle.decoder.specs.declared.SyndromeAnswer.{SyndromeAnswer}
 use Rattle.decoder.specs.Correction.{decode}
 use Rattle.decoder.specs.EndToEnd.{cycle, Correctable, Corrects, RefutedSheet, EndToEnd}
 use Rattle.decoder.specs.Statements.{IsCorrected, Refutes, Refuted}
@@ -63,7 +63,7 @@ module _ (s : List ℕ) (E : Pauli) (h : Correctable s E) (first : List ℕ) (sp
     is-corrected : IsCorrected c E
     is-corrected = errors-are-corrected s h.is_admitted E h.on_code h.light
 
-    measured : write_syndrome c E first ≡ record { answer = SyndromeAnswer.Given; buffer = laid text first }
+    measured : write_syndrome c E first ≡ record { answer = Ok tt; buffer = laid text first }
     measured =
         let lawful = admitted-lawful s c (admitted-as s h.is_admitted) in
         syndrome-laid c E lawful.limits first space
@@ -98,10 +98,10 @@ module _ (s : List ℕ) (E : Pauli) (h : Correctable s E) (first : List ℕ) (sp
           }
 
       refuses : length second < c.n
-          → (cycle s E first second).decoded ≡ untouched (Decoded.Refused Refusal.ShortBuffer) second
+          → (cycle s E first second).decoded ≡ untouched (Err Refusal.ShortBuffer) second
       refuses room = decodes ∙ is-corrected.short second room
 
-      never-none : (cycle s E first second).decoded.answer ≡ Decoded.None → ⊥
+      never-none : (cycle s E first second).decoded.answer ≡ Ok Decoded.None → ⊥
       unfolding untouched
       never-none e = elim (dec_lt (length second) c.n) [
         | yes room ↦ let refused = ap (λ after. after.answer) (refuses room) in
@@ -129,27 +129,26 @@ other-checks at c =
 -- ---- the distance is decided
 
 refused-by : (c : Code) (fault : Option Refusal) (refusal : Refusal)
-    → (reading_of c fault).answer ≡ Admission.Refused refusal → fault ≡ some refusal
+    → (reading_of c fault).answer ≡ Err refusal → fault ≡ Some refusal
 unfolding reading_of admitted refused_reading
-refused-by c none refusal h = cc
-refused-by c (some other) refusal h = cc
+refused-by c None refusal h = cc
+refused-by c (Some other) refusal h = cc
 
-passed-or-first : (first next : Option Refusal) (refusal : Refusal) → (first then next) ≡ some refusal
-    → (first ≡ none) ⊎ (first ≡ some refusal)
+passed-or-first : (first next : Option Refusal) (refusal : Refusal) → (first then next) ≡ Some refusal
+    → (first ≡ None) ⊎ (first ≡ Some refusal)
 unfolding ◌then◌
-passed-or-first none next refusal h = inl refl
-passed-or-first (some other) next refusal h = inr h
+passed-or-first None next refusal h = inl refl
+passed-or-first (Some other) next refusal h = inr h
 
 module _ (s : List ℕ) (at : ℕ) (pair : ErrorPair) where
   abbrev fourteen : Refusal
   fourteen = Refusal.DistanceRefuted at pair
 
   admissible-is-shown : (q : SheetRead) → AdmissibleButForDistance s q
-      → (read_sheet s).answer ≡ Admission.Refused fourteen → RefutedSheet s at pair
-  unfolding admission_refusal
+      → (read_sheet s).answer ≡ Err fourteen → RefutedSheet s at pair
   admissible-is-shown q admissible h =
-      let shows = distance-is-decided.shown s q fourteen admissible (ap admission_refusal h, refl) in
-      let same = some-injective pair shows.pair shows.carried in
+      let shows = distance-is-decided.shown s q fourteen admissible (ap result_err h, refl) in
+      let same = same_Some pair shows.pair shows.carried in
       record {
         read = q;
         admissible = admissible;
@@ -158,18 +157,18 @@ module _ (s : List ℕ) (at : ℕ) (pair : ErrorPair) where
         refutes = subst (λ p. Refutes q.code p.e p.f) (sym same) shows.refutes;
       }
 
-  checks-pass : (line : ℕ) (c : Code) → code_fault line c ≡ some fourteen → fault_but_distance line c ≡ none
+  checks-pass : (line : ℕ) (c : Code) → code_fault line c ≡ Some fourteen → fault_but_distance line c ≡ None
   unfolding code_fault
   checks-pass line c h =
       ⊎_elim (λ passed. passed) (λ first. absurd (true≢false (law-of-refusal (other-checks line c) fourteen first)))
       (passed-or-first (fault_but_distance line c) (distance_fault line c) fourteen h)
 
   lines-pass : read_form s ≡ stop fourteen → ⊥
-  unfolding form_reading answered lines_refusal any_of
+  unfolding form_reading answered any_of
   lines-pass form =
-      false≢true (sheet-refusal-numbers.alone s fourteen (ap (λ p. lines_refusal (answered s p).answer) form))
+      false≢true (sheet-refusal-numbers.alone s fourteen (ap (λ p. result_err (answered s p).answer) form))
 
-  refusal-is-shown : (read_sheet s).answer ≡ Admission.Refused fourteen → RefutedSheet s at pair
+  refusal-is-shown : (read_sheet s).answer ≡ Err fourteen → RefutedSheet s at pair
   unfolding read_sheet checked refused_reading read_form nothing_behind
   refusal-is-shown h = go (read_form s) refl
     where
@@ -194,12 +193,12 @@ refuted-is-refused s q admissible refuted =
     let (refusal, told) = (distance-is-decided.exactly s q admissible).1 refuted in
     let fault = refusal-is-distance-fault s q admissible refusal told.0 in
     let shows = refuting-pair-is-from-earliest.of_record _ q.code refusal fault in
-    (shows.pair, read-by-distance s q admissible ∙ ap (reading_of q.code) (fault ∙ ap some shows.told))
+    (shows.pair, read-by-distance s q admissible ∙ ap (reading_of q.code) (fault ∙ ap Some shows.told))
 
 is-measured : (s : List ℕ) (E : Pauli) (first second : List ℕ) (h : Correctable s E)
     (space : (read_sheet s).code.r ≤ length first)
     → (cycle s E first second).measured
-    ≡ record { answer = SyndromeAnswer.Given; buffer = laid (text s E h first space) first }
+    ≡ record { answer = Ok tt; buffer = laid (text s E h first space) first }
 unfolding cycle
 is-measured s E first second h space = measured s E h first space
 

@@ -1,4 +1,5 @@
 -- Syndromes and corrections of small codes, computed.
+use Rattle.std.specs.Prelude.{Ok, Err}
 use mathlib.Core.List.{[], ◌∷◌, map}
 use mathlib.Core.Path.{◌≡◌, refl}
 use Prim.Native.Nat.{◌+◌, ◌^◌}
@@ -12,7 +13,6 @@ use Rattle.sheet.specs.Edges.{nine_qubits, sheet_a, sheet_k}
 use Rattle.sheet.specs.Text.{untouched}
 use Rattle.admission.specs.Admission.{admitted, read_sheet}
 use Rattle.decoder.specs.declared.Decoded.{Decoded}
-use Rattle.decoder.specs.declared.SyndromeAnswer.{SyndromeAnswer}
 use Rattle.decoder.specs.Correction.{decode}
 use Rattle.decoder.specs.Definitions.{definitions}
 use Rattle.decoder.specs.EndToEnd.{cycle}
@@ -29,50 +29,50 @@ code_k = (read_sheet (bytes sheet_k)).code
 -- X on qubit 1 of A anticommutes with its last generator alone
 syndrome-a :
     write_syndrome code_a (of_letters (X ∷ I ∷ I ∷ I ∷ I ∷ [])) (bytes "abcdef")
-    ≡ record { answer = SyndromeAnswer.Given; buffer = bytes "0001ef" }
+    ≡ record { answer = Ok tt; buffer = bytes "0001ef" }
 unfolding code_a definitions
 syndrome-a = refl
 
 -- the phase, and mask bits above qubit n, change nothing
 syndrome-above :
     write_syndrome code_a (record { p = 7; a = 2 ^ 31 + 1; b = 2 ^ 5 }) (bytes "abcd")
-    ≡ record { answer = SyndromeAnswer.Given; buffer = bytes "0001" }
+    ≡ record { answer = Ok tt; buffer = bytes "0001" }
 unfolding code_a definitions
 syndrome-above = refl
 
 syndrome-short :
     write_syndrome code_a (of_letters []) (bytes "abc")
-    ≡ untouched (SyndromeAnswer.Refused Refusal.ShortBuffer) (bytes "abc")
+    ≡ untouched (Err Refusal.ShortBuffer) (bytes "abc")
 unfolding code_a definitions
 syndrome-short = refl
 
 syndrome-outside :
     write_syndrome empty_code (of_letters []) (bytes "abc")
-    ≡ untouched (SyndromeAnswer.Refused Refusal.RecordLimits) (bytes "abc")
+    ≡ untouched (Err Refusal.RecordLimits) (bytes "abc")
 unfolding definitions
 syndrome-outside = refl
 
 -- ---- corrections
 
 decode-a :
-    decode code_a (bytes "0001") (bytes "abcdefg") ≡ record { answer = Decoded.Correction; buffer = bytes "XIIIIfg" }
+    decode code_a (bytes "0001") (bytes "abcdefg") ≡ record { answer = Ok Decoded.Correction; buffer = bytes "XIIIIfg" }
 unfolding code_a definitions
 decode-a = refl
 
-decode-none : decode code_k (bytes "1") (bytes "abc") ≡ untouched Decoded.None (bytes "abc")
+decode-none : decode code_k (bytes "1") (bytes "abc") ≡ untouched (Ok Decoded.None) (bytes "abc")
 unfolding code_k definitions
 decode-none = refl
 
 -- 15 before 16 before 17, and 17 even where the answer would be none
-decode-outside : decode empty_code (bytes "x") [] ≡ untouched (Decoded.Refused Refusal.RecordLimits) []
+decode-outside : decode empty_code (bytes "x") [] ≡ untouched (Err Refusal.RecordLimits) []
 unfolding definitions
 decode-outside = refl
 
-decode-off-form : decode code_k (bytes "01") [] ≡ untouched (Decoded.Refused (Refusal.Syndrome 0)) []
+decode-off-form : decode code_k (bytes "01") [] ≡ untouched (Err (Refusal.Syndrome 0)) []
 unfolding code_k definitions
 decode-off-form = refl
 
-decode-short : decode code_k (bytes "1") (bytes "a") ≡ untouched (Decoded.Refused Refusal.ShortBuffer) (bytes "a")
+decode-short : decode code_k (bytes "1") (bytes "a") ≡ untouched (Err Refusal.ShortBuffer) (bytes "a")
 unfolding code_k definitions
 decode-short = refl
 
@@ -98,8 +98,8 @@ cycle-a :
     cycle (bytes sheet_a) (record { p = 3; a = 2 ^ 2; b = 2 ^ 2 }) (bytes "abcdef") (bytes "ghijklm")
     ≡ record {
       reading = admitted code_a;
-      measured = record { answer = SyndromeAnswer.Given; buffer = bytes "1110ef" };
-      decoded = record { answer = Decoded.Correction; buffer = bytes "IIYIIlm" };
+      measured = record { answer = Ok tt; buffer = bytes "1110ef" };
+      decoded = record { answer = Ok Decoded.Correction; buffer = bytes "IIYIIlm" };
     }
 unfolding code_a definitions
 cycle-a = refl

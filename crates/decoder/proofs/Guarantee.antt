@@ -4,8 +4,11 @@
 -- to two strings, are two such errors. The search of 14 finds a logical error below d where there is one, and shows
 -- the two halves of the earliest. So what is admissible but for distance is refused with 14 where it can be
 -- refuted, and else admitted.
+use Rattle.std.specs.Prelude.{Option, Some, None}
+use Rattle.std.specs.Result.{result_err}
+use Rattle.std.specs.Option.{option_map}
+use Rattle.std.proofs.lemmas.Option.{none-some, same_Some}
 use mathlib.Core.List.{List}
-use mathlib.Core.Option.{Option, none, some, map, some-injective, none-ne-some}
 use mathlib.Core.Path.{◌≡◌, refl, ap, sym, subst, ◌∙◌}
 use Prim.Native.Nat.{ℕ, ◌+◌, ◌-◌, ◌/◌, ◌<◌}
 use native.Mathlib.Omega.{arith}
@@ -24,7 +27,7 @@ use Rattle.code_record.specs.Record.{generators}
 use Rattle.code_record.proofs.Limits.{limits}
 use Rattle.sheet.specs.Reader.{SheetRead}
 use Rattle.stabilizer.proofs.Columns.{product-on-qubits}
-use Rattle.admission.specs.Admission.{AdmissibleButForDistance, admission_refusal}
+use Rattle.admission.specs.Admission.{AdmissibleButForDistance}
 use Rattle.admission.specs.Admission.{admitted, reading_of, refused_reading, read_sheet}
 use Rattle.admission.specs.Distance.{LogicalError, logical_error_up_to, refuting_pair, distance_fault}
 use Rattle.admission.proofs.Admitted.{admitted-as, admitted-lawful, no-distance-fault, form-lawful, read-by-distance}
@@ -89,7 +92,7 @@ module _ (s : List ℕ) (q : SheetRead) (lawful : AdmissibleButForDistance s q) 
   abbrev told : List Letter → Refusal
   told t = Refusal.DistanceRefuted q.claim_at (refuting_pair c.n t)
 
-  found-refutes : (t : List Letter) → searched ≡ some t
+  found-refutes : (t : List Letter) → searched ≡ Some t
       → Refutes c (refuting_pair c.n t).e (refuting_pair c.n t).f
   unfolding refuting_pair
   found-refutes t e =
@@ -98,17 +101,17 @@ module _ (s : List ℕ) (q : SheetRead) (lawful : AdmissibleButForDistance s q) 
       (omega (arith, found.light, (limits c (form-lawful s q lawful.form).limits).distance)) found.logical
 
   -- The sheet is read by what the search finds, and refused where it finds something.
-  read-by-search : (o : Option (List Letter)) → searched ≡ o → read_sheet s ≡ reading_of c (map told o)
+  read-by-search : (o : Option (List Letter)) → searched ≡ o → read_sheet s ≡ reading_of c (option_map told o)
   unfolding distance_fault
-  read-by-search o e = read-by-distance s q lawful ∙ ap (λ o. reading_of c (map told o)) e
+  read-by-search o e = read-by-distance s q lawful ∙ ap (λ o. reading_of c (option_map told o)) e
 
   refusal-by-search : (o : Option (List Letter)) → searched ≡ o
-      → admission_refusal (read_sheet s).answer ≡ map told o
-  unfolding admission_refusal reading_of admitted refused_reading
-  refusal-by-search none e = ap (λ r. admission_refusal r.answer) (read-by-search none e)
-  refusal-by-search (some t) e = ap (λ r. admission_refusal r.answer) (read-by-search (some t) e)
+      → result_err (read_sheet s).answer ≡ option_map told o
+  unfolding reading_of admitted refused_reading
+  refusal-by-search None e = ap (λ r. result_err r.answer) (read-by-search None e)
+  refusal-by-search (Some t) e = ap (λ r. result_err r.answer) (read-by-search (Some t) e)
 
-  found-is-shown : (t : List Letter) → searched ≡ some t → Shows q (told t)
+  found-is-shown : (t : List Letter) → searched ≡ Some t → Shows q (told t)
   unfolding refuting_pair
   found-is-shown t e = record {
     pair = refuting_pair c.n t;
@@ -118,13 +121,13 @@ module _ (s : List ℕ) (q : SheetRead) (lawful : AdmissibleButForDistance s q) 
     refutes = found-refutes t e;
   }
 
-  refusal-shows : (refusal : Refusal) → admission_refusal (read_sheet s).answer ≡ some refusal → Shows q refusal
+  refusal-shows : (refusal : Refusal) → result_err (read_sheet s).answer ≡ Some refusal → Shows q refusal
   refusal-shows refusal h = go searched refl
     where
       go : (o : Option (List Letter)) → searched ≡ o → Shows q refusal
-      go none e = absurd (none-ne-some refusal (sym (refusal-by-search none e) ∙ h))
-      go (some t) e =
-          let same = some-injective (told t) refusal (sym (refusal-by-search (some t) e) ∙ h) in
+      go None e = absurd (none-some refusal (sym (refusal-by-search None e) ∙ h))
+      go (Some t) e =
+          let same = same_Some (told t) refusal (sym (refusal-by-search (Some t) e) ∙ h) in
           subst (Shows q) same (found-is-shown t e)
 
   refuted-is-refused : Refuted c → (refusal : Refusal) × RefusedForDistance s refusal
@@ -132,19 +135,19 @@ module _ (s : List ℕ) (q : SheetRead) (lawful : AdmissibleButForDistance s q) 
   refuted-is-refused (E, F, r) = go searched refl
     where
       go : (o : Option (List Letter)) → searched ≡ o → (refusal : Refusal) × RefusedForDistance s refusal
-      go none e =
+      go None e =
           let l = refuting-product-is-logical c E F r in
-          let heavy = logical-errors-weigh-d q.claim_at c (ap (map told) e) (product E F) l.0 in
+          let heavy = logical-errors-weigh-d q.claim_at c (ap (option_map told) e) (product E F) l.0 in
           absurd (omega (arith, l.1))
-      go (some t) e = (told t, (refusal-by-search (some t) e, refl))
+      go (Some t) e = (told t, (refusal-by-search (Some t) e, refl))
 
   unrefuted_is-admitted : (Refuted c → ⊥) → read_sheet s ≡ admitted c
   unfolding reading_of
   unrefuted_is-admitted never = go searched refl
     where
       go : (o : Option (List Letter)) → searched ≡ o → read_sheet s ≡ admitted c
-      go none e = read-by-search none e
-      go (some t) e = absurd (never (_, _, found-refutes t e))
+      go None e = read-by-search None e
+      go (Some t) e = absurd (never (_, _, found-refutes t e))
 
 pub distance-is-decided : DistanceIsDecided
 distance-is-decided = record {

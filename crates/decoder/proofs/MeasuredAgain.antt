@@ -1,7 +1,8 @@
 -- The letters that a decode call wrote, measured and decoded again. Where it wrote some, its checks found nothing. So
 -- the characters are the text of r bits, and the letters are their correction, which has these bits as its syndrome.
+use Rattle.std.specs.Prelude.{Option, Some, None, Ok, Err}
+use Rattle.letters.proofs.Options.{bind-some}
 use mathlib.Core.List.{List}
-use mathlib.Core.Option.{Option, none, some, bind-eq-some_iff}
 use mathlib.Core.Path.{◌≡◌, refl, ap, ap₂, sym, ◌∙◌}
 use Prim.Native.Nat.{ℕ, ◌≤◌}
 use native.Mathlib.Omega.{arith}
@@ -15,7 +16,6 @@ use Rattle.code_record.specs.Record.{within_limits, limits_fault}
 use Rattle.sheet.specs.Text.{laid, untouched, guarded}
 use Rattle.stabilizer.proofs.Faults.{nothing_then, unrefused}
 use Rattle.decoder.specs.declared.Decoded.{Decoded}
-use Rattle.decoder.specs.declared.SyndromeAnswer.{SyndromeAnswer}
 use Rattle.decoder.specs.Correction.{correction, corrected, decode}
 use Rattle.decoder.specs.Statements.{DecodedIsMeasuredAgain}
 use Rattle.decoder.specs.Syndrome.{syndrome_text, read_syndrome, write_syndrome}
@@ -26,12 +26,12 @@ use Rattle.decoder.proofs.Earliest.{correction-is-earliest}
 -- ---- what a correction answered says of the call
 
 answered-correction : (fault : Option Refusal) (found : Option (List Letter)) (buffer : List ℕ)
-    → (guarded Decoded.Refused fault buffer (corrected found buffer)).answer ≡ Decoded.Correction
-    → (fault ≡ none) × (s : List Letter) × (found ≡ some s)
+    → (guarded Err fault buffer (corrected found buffer)).answer ≡ Ok Decoded.Correction
+    → (fault ≡ None) × (s : List Letter) × (found ≡ Some s)
 unfolding guarded corrected untouched
-answered-correction none none buffer h = let never : ◌≡◌ {A = ℕ} 0 1 = cc in absurd (omega arith)
-answered-correction none (some s) buffer h = (refl, s, refl)
-answered-correction (some refusal) found buffer h = let never : ◌≡◌ {A = ℕ} 0 1 = cc in absurd (omega arith)
+answered-correction None None buffer h = let never : ◌≡◌ {A = ℕ} 0 1 = cc in absurd (omega arith)
+answered-correction None (Some s) buffer h = (refl, s, refl)
+answered-correction (Some refusal) found buffer h = let never : ◌≡◌ {A = ℕ} 0 1 = cc in absurd (omega arith)
 
 -- ---- the letters measured again
 
@@ -40,20 +40,20 @@ unfolding decode limits_fault guarded corrected laid
 decoded-is-measured-again c characters before h =
     let (faultless, s, answered) = answered-correction _ _ before h in
     let within = not-false (within_limits c) (unrefused _ _ (nothing_then (limits_fault c) _ faultless).0) in
-    let (bits, read, found) = (bind-eq-some_iff (read_syndrome c.r characters) (correction c)).0 answered in
+    let (bits, read, found) = bind-some (read_syndrome c.r characters) (correction c) answered in
     let whole = read_length c.r characters bits read in
     let (count, text) = syndrome-written c.r characters bits whole read in
     let candidate = ((correction-is-earliest c bits).found s found).0 in
     let measured : (buffer : List ℕ) → c.r ≤ length buffer
     → write_syndrome c (of_letters s) buffer
-    ≡ record { answer = SyndromeAnswer.Given; buffer = laid characters buffer } =
+    ≡ record { answer = Ok tt; buffer = laid characters buffer } =
     λ buffer fits. syndrome-laid c (of_letters s) within buffer fits
-    ∙ ap (λ v. record { answer = SyndromeAnswer.Given; buffer = laid v buffer })
+    ∙ ap (λ v. record { answer = Ok tt; buffer = laid v buffer })
     (ap syndrome_text candidate.matches ∙ sym text) in
     record {
       letters = s;
       count = candidate.letters;
-      wrote = ap₂ (λ fault found. (guarded Decoded.Refused fault before (corrected found before)).buffer) faultless
+      wrote = ap₂ (λ fault found. (guarded Err fault before (corrected found before)).buffer) faultless
           answered;
       measured = measured;
       again = λ first second fits room.

@@ -1,8 +1,8 @@
 -- What syndromes tell of errors. The Paulis with a syndrome of zeros have I, the product of any two of them, and where
 -- the rows commute each row; so they have all that the rows generate. The other laws are those of `pauli`.
+use Rattle.std.specs.Prelude.{None}
 use mathlib.Core.Bool.{true, false, not, xor}
 use mathlib.Core.List.{List, [], ◌∷◌, zip_with}
-use mathlib.Core.Option.{none}
 use mathlib.Core.Path.{◌≡◌, refl, ap, ap₂, sym, ◌∙◌}
 use Prim.Native.Nat.{ℕ, zero, suc}
 use lib.ListN.{length, replicate}
@@ -69,8 +69,8 @@ members-have-zeros rows P commuting member =
 
 -- ---- an admitted sheet
 
-pub generators-pass : (at : ℕ) (c : Code) → code_fault at c ≡ none
-    → generator_fault (generators_at c) (generators c) ≡ none
+pub generators-pass : (at : ℕ) (c : Code) → code_fault at c ≡ None
+    → generator_fault (generators_at c) (generators c) ≡ None
 unfolding code_fault fault_but_distance
 generators-pass at c faultless =
     let checks = (nothing_then (fault_but_distance at c) (distance_fault at c) faultless).0 in

@@ -1,6 +1,7 @@
 -- Corrections and the decode call.
+use Rattle.std.specs.Prelude.{Option, Some, None, Result, Ok, Err}
+use Rattle.letters.specs.Options.{bind}
 use Rattle.std.specs.Prelude.{Bool, List, map, ℕ}
-use Rattle.std.proofs.Math.Option.{Option, none, some, bind}
 use Rattle.letters.specs.Lists.{first_of}
 use Rattle.letters.specs.declared.Letter.{Letter}
 use Rattle.pauli.specs.Letters.{of_letters}
@@ -24,18 +25,12 @@ unfoldable pub correction : Code → List Bool → Option (List Letter)
 correction c bits = first_of (has_syndrome c bits) (strings_up_to c.n (radius c))
 
 -- RULES, "Calls and buffers": the letters stand in the buffer's first n bytes; the answer `none` leaves the buffer.
-unfoldable pub corrected : Option (List Letter) → List ℕ → After Decoded
-corrected none buffer = untouched Decoded.None buffer
-corrected (some s) buffer = record { answer = Decoded.Correction; buffer = laid (map letter_byte s) buffer }
+unfoldable pub corrected : Option (List Letter) → List ℕ → After (Result Decoded Refusal)
+corrected None buffer = untouched (Ok Decoded.None) buffer
+corrected (Some s) buffer = record { answer = Ok Decoded.Correction; buffer = laid (map letter_byte s) buffer }
 
 -- RULES, "Calls and buffers": the decode call checks 15, then 16, then 17, for which its answer counts as n bytes.
-unfoldable pub decode : Code → List ℕ → List ℕ → After Decoded
+unfoldable pub decode : Code → List ℕ → List ℕ → After (Result Decoded Refusal)
 decode c characters buffer =
-    guarded Decoded.Refused (limits_fault c then syndrome_fault c.r characters then room_fault c.n buffer) buffer
+    guarded Err (limits_fault c then syndrome_fault c.r characters then room_fault c.n buffer) buffer
     (corrected (bind (read_syndrome c.r characters) (correction c)) buffer)
-
--- The refusal that an answer carries, where it is one.
-unfoldable pub decoded_refusal : Decoded → Option Refusal
-decoded_refusal Decoded.Correction = none
-decoded_refusal Decoded.None = none
-decoded_refusal (Decoded.Refused refusal) = some refusal

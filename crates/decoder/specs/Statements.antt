@@ -1,7 +1,8 @@
 -- What is stated of the decoder, and of admission and decoder together: the third guarantee.
+use Rattle.std.specs.Prelude.{Some, Ok, Err}
+use Rattle.std.specs.Result.{result_err}
 use Rattle.std.specs.Prelude.{Bool, true, false, List, [], ◌∷◌, map, ◌↔◌, ◌≡◌, ℕ, ◌+◌, ◌%◌, ◌^◌, ◌≤◌, ◌<◌, length, take}
 use Rattle.std.specs.Prelude.{replicate}
-use Rattle.std.proofs.Math.Option.{some}
 use Rattle.pauli.specs.declared.Pauli.{Pauli}
 use Rattle.letters.specs.declared.Letter.{Letter}
 use Rattle.pauli.specs.Letters.{of_letters}
@@ -20,13 +21,11 @@ use Rattle.sheet.specs.Statements.{RefusalLeaves, Among}
 use Rattle.sheet.specs.Text.{laid, untouched}
 use Rattle.stabilizer.specs.Group.{InGroupUpToPhase}
 use Rattle.stabilizer.specs.Statements.{Commuting}
-use Rattle.admission.specs.declared.Admission.{Admission}
-use Rattle.admission.specs.Admission.{AdmissibleButForDistance, admission_refusal, admitted, read_sheet}
+use Rattle.admission.specs.Admission.{AdmissibleButForDistance, admitted, read_sheet}
 use Rattle.admission.specs.Statements.{FindsFirst}
 use Rattle.decoder.specs.declared.Decoded.{Decoded}
-use Rattle.decoder.specs.declared.SyndromeAnswer.{SyndromeAnswer}
-use Rattle.decoder.specs.Syndrome.{syndrome_text, syndrome_refusal, write_syndrome}
-use Rattle.decoder.specs.Correction.{correction, decode, decoded_refusal}
+use Rattle.decoder.specs.Syndrome.{syndrome_text, write_syndrome}
+use Rattle.decoder.specs.Correction.{correction, decode}
 
 -- ---- the syndrome
 
@@ -42,7 +41,7 @@ HighBitsChangeNothing =
 pub record SyndromesHaveRBits : Type 0 where
   pub of_record : (c : Code) (P : Pauli) → Sized c → within_limits c ≡ true
       → length (syndrome (generators c) P) ≡ c.r
-  pub of_sheet : (s : List ℕ) (P : Pauli) → (read_sheet s).answer ≡ Admission.Admitted
+  pub of_sheet : (s : List ℕ) (P : Pauli) → (read_sheet s).answer ≡ Ok tt
       → length (syndrome (generators (read_sheet s).code) P) ≡ (read_sheet s).code.r
 
 -- RULES, "Decoding": what syndromes tell of errors. The syndrome of a product is the sum of the two, bit by bit. Where
@@ -53,7 +52,7 @@ pub record SyndromesTellErrors : Type 0 where
       → syndrome rows (product P Q) ≡ add_bits (syndrome rows P) (syndrome rows Q)
   pub members : (rows : List Pauli) (P : Pauli) → Commuting rows → InGroupUpToPhase rows P
       → syndrome rows P ≡ replicate (length rows) false
-  pub of_sheet : (s : List ℕ) (P : Pauli) → (read_sheet s).answer ≡ Admission.Admitted
+  pub of_sheet : (s : List ℕ) (P : Pauli) → (read_sheet s).answer ≡ Ok tt
       → InGroupUpToPhase (generators (read_sheet s).code) P
       → syndrome (generators (read_sheet s).code) P ≡ replicate (read_sheet s).code.r false
   pub same : (rows : List Pauli) (P Q : Pauli)
@@ -64,18 +63,18 @@ pub record SyndromesTellErrors : Type 0 where
 -- RULES, "Calls and buffers": a refusal of either call leaves the buffer as it was, and so does the answer `none`.
 pub record DecoderRefusalsLeave : Type 0 where
   pub syndromes : (c : Code) (P : Pauli) (buffer : List ℕ)
-      → RefusalLeaves syndrome_refusal buffer (write_syndrome c P buffer)
+      → RefusalLeaves result_err buffer (write_syndrome c P buffer)
   pub corrections : (c : Code) (characters buffer : List ℕ)
-      → RefusalLeaves decoded_refusal buffer (decode c characters buffer)
-  pub missing : (c : Code) (characters buffer : List ℕ) → (decode c characters buffer).answer ≡ Decoded.None
+      → RefusalLeaves result_err buffer (decode c characters buffer)
+  pub missing : (c : Code) (characters buffer : List ℕ) → (decode c characters buffer).answer ≡ Ok Decoded.None
       → (decode c characters buffer).buffer ≡ buffer
 
 -- RULES, "Calls and buffers": the numbers with which either call refuses.
 pub record DecoderRefusalNumbers : Type 0 where
   pub syndromes : (c : Code) (P : Pauli) (buffer : List ℕ) (refusal : Refusal)
-      → syndrome_refusal (write_syndrome c P buffer).answer ≡ some refusal → Among (15 ∷ 17 ∷ []) refusal
+      → result_err (write_syndrome c P buffer).answer ≡ Some refusal → Among (15 ∷ 17 ∷ []) refusal
   pub corrections : (c : Code) (characters buffer : List ℕ) (refusal : Refusal)
-      → decoded_refusal (decode c characters buffer).answer ≡ some refusal → Among (15 ∷ 16 ∷ 17 ∷ []) refusal
+      → result_err (decode c characters buffer).answer ≡ Some refusal → Among (15 ∷ 16 ∷ 17 ∷ []) refusal
 
 -- ---- the correction is the earliest
 
@@ -92,8 +91,8 @@ CorrectionIsEarliest = (c : Code) (bits : List Bool) → FindsFirst Earlier (Can
 -- RULES, "Decoding": the correction for the syndrome of a correction is that correction.
 abbrev pub CorrectionsReturn : Type 0
 CorrectionsReturn =
-    (c : Code) (bits : List Bool) (s : List Letter) → correction c bits ≡ some s
-    → correction c (syndrome (generators c) (of_letters s)) ≡ some s
+    (c : Code) (bits : List Bool) (s : List Letter) → correction c bits ≡ Some s
+    → correction c (syndrome (generators c) (of_letters s)) ≡ Some s
 
 -- RULES, "Decoding": the same of the calls. Of the n letters that a decode call wrote, the syndrome call writes the
 -- characters that were decoded; and from these, as they stand in its buffer, the decode call writes the same letters.
@@ -103,14 +102,14 @@ pub record MeasuredAgain (c : Code) (characters before : List ℕ) : Type 0 wher
   pub wrote : (decode c characters before).buffer ≡ laid (map letter_byte letters) before
   pub measured : (buffer : List ℕ) → c.r ≤ length buffer
       → write_syndrome c (of_letters letters) buffer
-      ≡ record { answer = SyndromeAnswer.Given; buffer = laid characters buffer }
+      ≡ record { answer = Ok tt; buffer = laid characters buffer }
   pub again : (first second : List ℕ) → c.r ≤ length first → c.n ≤ length second
       → decode c (take c.r (write_syndrome c (of_letters letters) first).buffer) second
-      ≡ record { answer = Decoded.Correction; buffer = laid (map letter_byte letters) second }
+      ≡ record { answer = Ok Decoded.Correction; buffer = laid (map letter_byte letters) second }
 
 abbrev pub DecodedIsMeasuredAgain : Type 0
 DecodedIsMeasuredAgain =
-    (c : Code) (characters before : List ℕ) → (decode c characters before).answer ≡ Decoded.Correction
+    (c : Code) (characters before : List ℕ) → (decode c characters before).answer ≡ Ok Decoded.Correction
     → MeasuredAgain c characters before
 
 -- ---- the third guarantee, first half: errors are corrected
@@ -119,20 +118,20 @@ DecodedIsMeasuredAgain =
 -- phase aside. The decode call given that syndrome writes the correction's letters, or refuses with 17.
 pub record IsCorrected (c : Code) (E : Pauli) : Type 0 where
   pub letters : List Letter
-  pub found : correction c (syndrome (generators c) E) ≡ some letters
+  pub found : correction c (syndrome (generators c) E) ≡ Some letters
   pub light : weight_of letters ≤ weight E
   pub in_group : InGroupUpToPhase (generators c) (product (of_letters letters) E)
   pub written : (buffer : List ℕ) → c.n ≤ length buffer
       → decode c (syndrome_text (syndrome (generators c) E)) buffer
-      ≡ record { answer = Decoded.Correction; buffer = laid (map letter_byte letters) buffer }
+      ≡ record { answer = Ok Decoded.Correction; buffer = laid (map letter_byte letters) buffer }
   pub short : (buffer : List ℕ) → length buffer < c.n
       → decode c (syndrome_text (syndrome (generators c) E)) buffer
-      ≡ untouched (Decoded.Refused Refusal.ShortBuffer) buffer
+      ≡ untouched (Err Refusal.ShortBuffer) buffer
 
 -- RULES, "Guarantees": so is, under an admitted sheet, every Pauli on the n qubits of weight at most t, with any phase.
 abbrev pub ErrorsAreCorrected : Type 0
 ErrorsAreCorrected =
-    (s : List ℕ) → (read_sheet s).answer ≡ Admission.Admitted → (E : Pauli) → on_qubits (read_sheet s).code.n E ≡ true
+    (s : List ℕ) → (read_sheet s).answer ≡ Ok tt → (E : Pauli) → on_qubits (read_sheet s).code.n E ≡ true
     → weight E ≤ radius (read_sheet s).code → IsCorrected (read_sheet s).code E
 
 -- ---- the third guarantee, second half: the distance is decided
@@ -151,12 +150,12 @@ Refuted c = (E : Pauli) × (F : Pauli) × Refutes c E F
 
 -- The sheet is refused with number 14.
 abbrev pub RefusedForDistance : List ℕ → Refusal → Type 0
-RefusedForDistance s refusal = (admission_refusal (read_sheet s).answer ≡ some refusal) × ((values refusal).number ≡ 14)
+RefusedForDistance s refusal = (result_err (read_sheet s).answer ≡ Some refusal) × ((values refusal).number ≡ 14)
 
 -- The refusal carries two errors that refute the distance, and names the line that w stands on.
 pub record Shows (q : SheetRead) (refusal : Refusal) : Type 0 where
   pub pair : ErrorPair
-  pub carried : (values refusal).errors ≡ some pair
+  pub carried : (values refusal).errors ≡ Some pair
   pub at_claim : (values refusal).line ≡ q.claim_at
   pub qubits : pair.n ≡ q.code.n
   pub refutes : Refutes q.code pair.e pair.f

@@ -1,7 +1,9 @@
 -- Syndromes: bits, characters, and the syndrome call.
-use Rattle.std.specs.Prelude.{Bool, true, false, cond, ◌&&◌, List, [], ◌∷◌, map, ℕ, eqb, length}
+use Rattle.std.specs.Prelude.{Option, None, Result, Ok, Err}
+use Rattle.std.specs.Option.{is_none}
+use Rattle.std.specs.Prelude.{Bool, true, false, cond, List, [], ◌∷◌, map, ℕ, eqb, length}
 use Rattle.std.specs.Bool.{beq}
-use Rattle.std.proofs.Math.Option.{Option, none, some}
+use Rattle.std.specs.Cmp.Lexicographic.{pointwise}
 use Prim.Native.Char.{code}
 use Rattle.pauli.specs.declared.Pauli.{Pauli}
 use Rattle.letters.specs.Lists.{read_byte}
@@ -12,13 +14,9 @@ use Rattle.code_record.specs.Record.{generators, limits_fault}
 use Rattle.refusals.specs.Refusals.{refuse_if, ◌then◌}
 use Rattle.sheet.specs.Reader.{read_each}
 use Rattle.sheet.specs.Text.{After, laid, guarded, room_fault}
-use Rattle.decoder.specs.declared.SyndromeAnswer.{SyndromeAnswer}
 
-unfoldable pub same_bits : List Bool → List Bool → Bool
-same_bits [] [] = true
-same_bits [] (c ∷ cs) = false
-same_bits (b ∷ bs) [] = false
-same_bits (b ∷ bs) (c ∷ cs) = beq b c && same_bits bs cs
+abbrev pub same_bits : List Bool → List Bool → Bool
+same_bits = pointwise beq
 
 -- A bit as a character 0 or 1.
 unfoldable pub bit_byte : Bool → ℕ
@@ -31,25 +29,16 @@ read_bit = read_byte bit_byte (false ∷ true ∷ [])
 unfoldable pub syndrome_text : List Bool → List ℕ
 syndrome_text bits = map bit_byte bits
 
-unfoldable pub is_none : {A : Type 0} → Option A → Bool
-is_none none = true
-is_none (some a) = false
-
 -- RULES, "Decoding": a syndrome as text is exactly r characters 0 or 1.
 unfoldable pub read_syndrome : ℕ → List ℕ → Option (List Bool)
-read_syndrome r cs = cond (eqb (length cs) r) (read_each read_bit cs) none
+read_syndrome r cs = cond (eqb (length cs) r) (read_each read_bit cs) None
 
 -- RULES, "Refusals": 16 of a syndrome that stands alone names line 0.
 unfoldable pub syndrome_fault : ℕ → List ℕ → Option Refusal
 syndrome_fault r cs = refuse_if (is_none (read_syndrome r cs)) (Refusal.Syndrome 0)
 
 -- RULES, "Calls and buffers": the syndrome call checks 15, then 17, and writes r characters.
-unfoldable pub write_syndrome : Code → Pauli → List ℕ → After SyndromeAnswer
+unfoldable pub write_syndrome : Code → Pauli → List ℕ → After (Result Unit Refusal)
 write_syndrome c P buffer =
-    guarded SyndromeAnswer.Refused (limits_fault c then room_fault c.r buffer) buffer
-    (record { answer = SyndromeAnswer.Given; buffer = laid (syndrome_text (syndrome (generators c) P)) buffer })
-
--- The refusal that an answer carries, where it is one.
-unfoldable pub syndrome_refusal : SyndromeAnswer → Option Refusal
-syndrome_refusal SyndromeAnswer.Given = none
-syndrome_refusal (SyndromeAnswer.Refused refusal) = some refusal
+    guarded Err (limits_fault c then room_fault c.r buffer) buffer
+    (record { answer = Ok tt; buffer = laid (syndrome_text (syndrome (generators c) P)) buffer })

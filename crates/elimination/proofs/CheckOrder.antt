@@ -1,9 +1,9 @@
 -- What the calls answer, by the check that finds a fault first: 15, then 6, then 7 and 8. A record within all of its
 -- limits has its generators within theirs.
+use Rattle.std.specs.Prelude.{Option, Some, None}
 use mathlib.Core.Bool.{Bool, true, false, not}
 use mathlib.Core.List.{List, []}
-use mathlib.Core.Option.{Option, none, some}
-use mathlib.Core.Path.{◌≡◌, ap, ap₂, sym, ◌∙◌}
+use mathlib.Core.Path.{◌≡◌, ap, sym, ◌∙◌}
 use Prim.Native.Nat.{ℕ}
 use lib.ListN.{take}
 use Rattle.pauli.specs.declared.Pauli.{Pauli}
@@ -15,10 +15,6 @@ use Rattle.record_limits.specs.Generators.{generators_within}
 use Rattle.record_limits.proofs.GeneratorLimits.{record-generators}
 use Rattle.stabilizer.specs.Canonical.{canonical_generators}
 use Rattle.stabilizer.specs.Checks.{first_fault, clash, dependence, generator_fault, group_fault}
-use Rattle.reduced_rows.specs.declared.ReducedRows.{ReducedRows}
-use Rattle.reduced_rows.specs.Rows.{reduced_of}
-use Rattle.refusals.specs.declared.Checked.{Checked}
-use Rattle.refusals.specs.Refusals.{checked_refusal}
 use Rattle.elimination.specs.declared.Elimination.{Elimination}
 use Rattle.elimination.specs.Answers.{eliminated, independence, rows_elimination, elimination}
 
@@ -27,7 +23,7 @@ module _ (n r : ℕ) (g : List Pauli) where
   answered fault = eliminated fault n (canonical_generators n (take r g))
 
   pub outside-limits : generators_within n r g ≡ false
-      → eliminated (some Refusal.RecordLimits) 0 [] ≡ rows_elimination n r g
+      → eliminated (Some Refusal.RecordLimits) 0 [] ≡ rows_elimination n r g
   unfolding rows_elimination refuse_if ◌then◌ eliminated answered
   outside-limits outside =
       ap (λ t. answered (refuse_if (not t) Refusal.RecordLimits then generator_fault first_generator_at (take r g)))
@@ -43,15 +39,12 @@ module _ (n r : ℕ) (g : List Pauli) where
         ∙ ap (λ t. answered (refuse_if (not t) Refusal.RecordLimits then generator_fault first_generator_at (take r g)))
         (sym within)
 
-    pub clashing : {checked : Checked} {hs : ReducedRows} {refusal : Refusal} → checked ≡ Checked.Refused refusal
-        → hs ≡ reduced_of 0 [] → checked_refusal checked ≡ first_fault clash [] first_generator_at (take r g)
-        → record { answer = checked; reduced = hs } ≡ rows_elimination n r g
+    pub clashing : {refusal : Refusal} → Some refusal ≡ first_fault clash [] first_generator_at (take r g)
+        → eliminated (Some refusal) 0 [] ≡ rows_elimination n r g
     unfolding ◌then◌ eliminated answered
-    clashing told e known =
-        ap₂ (λ answer hs. record { answer = answer; reduced = hs }) told e
-        ∙ found (ap checked_refusal (sym told) ∙ known)
+    clashing known = found known
 
-    pub clash-free : none ≡ first_fault clash [] first_generator_at (take r g)
+    pub clash-free : None ≡ first_fault clash [] first_generator_at (take r g)
         → independence n (take r g) ≡ rows_elimination n r g
     unfolding ◌then◌ independence answered
     clash-free known = found known
@@ -59,7 +52,7 @@ module _ (n r : ℕ) (g : List Pauli) where
 -- ---- of a record
 
 module _ (c : Code) where
-  pub record-outside : within_limits c ≡ false → eliminated (some Refusal.RecordLimits) 0 [] ≡ elimination c
+  pub record-outside : within_limits c ≡ false → eliminated (Some Refusal.RecordLimits) 0 [] ≡ elimination c
   unfolding elimination group_fault limits_fault refuse_if ◌then◌ eliminated
   record-outside outside =
       ap (λ t. eliminated (refuse_if (not t) Refusal.RecordLimits then generator_fault (generators_at c) (generators c))

@@ -1,7 +1,8 @@
 -- What an elimination tells of its record; of one that passes, that its generators are independent, and which Paulis
 -- are in the group, phase aside.
+use Rattle.std.specs.Prelude.{None, Result, Ok}
+use Rattle.std.specs.Result.{result_err}
 use mathlib.Core.Bool.{true, not}
-use mathlib.Core.Option.{none}
 use mathlib.Core.Path.{◌≡◌, refl, ap, sym, ◌∙◌}
 use lib.ListN.{take}
 use borrow.Author.Tests.{not-false}
@@ -18,25 +19,23 @@ use Rattle.stabilizer.proofs.StabilizerRows.{qubits-rows}
 use Rattle.stabilizer.proofs.Theorems.{reduction_decides-membership}
 use Rattle.reduced_rows.specs.Rows.{rows_in, reduced_of}
 use Rattle.reduced_rows.proofs.Rows.{rows_of}
-use Rattle.refusals.specs.declared.Checked.{Checked}
-use Rattle.refusals.specs.Refusals.{checked_refusal}
 use Rattle.elimination.specs.declared.Elimination.{Elimination}
 use Rattle.elimination.specs.Answers.{elimination}
 use Rattle.elimination.specs.Statements.{ContainsDecidesMembership}
 use Rattle.elimination.proofs.Answered.{fault-answered, rows-answered}
 
 module _ (c : Code) {e : Elimination} (known : e ≡ elimination c) where
-  pub fault-told : {checked : Checked} → e.answer ≡ checked → checked_refusal checked ≡ group_fault c
+  pub fault-told : {checked : Result Unit Refusal} → e.answer ≡ checked → result_err checked ≡ group_fault c
   unfolding elimination
   fault-told told = fault-answered _ _ _ known told
 
-  pub rows_told : e.answer ≡ Checked.Passed → e.reduced ≡ reduced_of c.n (canonical_generators c.n (generators c))
+  pub rows_told : e.answer ≡ Ok tt → e.reduced ≡ reduced_of c.n (canonical_generators c.n (generators c))
   unfolding elimination
   rows_told told = rows-answered _ _ _ known told
 
 -- A record that passes is within limits, and its generators are independent.
-module _ (c : Code) (passes : none ≡ group_fault c) where
-  parts : (limits_fault c ≡ none) × (generator_fault (generators_at c) (generators c) ≡ none)
+module _ (c : Code) (passes : None ≡ group_fault c) where
+  parts : (limits_fault c ≡ None) × (generator_fault (generators_at c) (generators c) ≡ None)
   unfolding group_fault
   parts = nothing_then (limits_fault c) (generator_fault (generators_at c) (generators c)) (sym passes)
 

@@ -1,8 +1,8 @@
 -- 7 and 8, row by row: the canonical generators of the rows so far, which are independent, tell what the next row is.
+use Rattle.std.specs.Prelude.{Option, Some, None}
 use mathlib.Core.Bool.{Bool, true, false, cond, false≢true}
 use mathlib.Core.List.{List, [], ◌∷◌}
 use mathlib.Core.Logic.{inl}
-use mathlib.Core.Option.{Option, none, some}
 use mathlib.Core.Path.{◌≡◌, refl, ap, sym, subst, ◌∙◌}
 use Prim.Native.Nat.{ℕ, zero, suc, ◌+◌, ◌<◌, ◌≤◌}
 use native.Mathlib.Omega.{arith}
@@ -37,19 +37,19 @@ use Rattle.independent_rows.proofs.Added.{ends-here, goes_on}
 -- ---- the fault of a kind
 
 abbrev pub kind_fault : ℕ → Kind → Option Refusal
-kind_fault at IsIndependent = none
-kind_fault at PlusIdentity = some (Refusal.DependentGenerator at Family.Generator)
-kind_fault at MinusIdentity = some (Refusal.MinusIdentity at Family.Generator)
+kind_fault at IsIndependent = None
+kind_fault at PlusIdentity = Some (Refusal.DependentGenerator at Family.Generator)
+kind_fault at MinusIdentity = Some (Refusal.MinusIdentity at Family.Generator)
 
 kind-fault : (at : ℕ) (Q : Pauli) → reduced_fault at Q ≡ kind_fault at (kind_of Q)
 unfolding reduced_fault kind_of
 kind-fault at Q = by (same_masks Q identity) (same_pauli minus_identity Q)
   where
-    by : (none? minus? : Bool)
-        → cond none?
-        (some (cond minus? (Refusal.MinusIdentity at Family.Generator)
-        (Refusal.DependentGenerator at Family.Generator))) none
-        ≡ kind_fault at (cond none? (cond minus? MinusIdentity PlusIdentity) IsIndependent)
+    by : (None? minus? : Bool)
+        → cond None?
+        (Some (cond minus? (Refusal.MinusIdentity at Family.Generator)
+        (Refusal.DependentGenerator at Family.Generator))) None
+        ≡ kind_fault at (cond None? (cond minus? MinusIdentity PlusIdentity) IsIndependent)
     by true true = refl
     by true false = refl
     by false minus? = refl
@@ -60,9 +60,9 @@ pub not-minus : (Q : Pauli) → same_masks Q identity ≡ true → {kind : Kind}
 unfolding kind_of
 not-minus Q phase {kind} told other = by (same_masks Q identity) (same_pauli minus_identity Q) phase told
   where
-    by : (none? minus? : Bool) → none? ≡ true
-        → kind ≡ cond none? (cond minus? MinusIdentity PlusIdentity) IsIndependent
-        → cond none? (cond minus? MinusIdentity PlusIdentity) IsIndependent ≡ PlusIdentity
+    by : (None? minus? : Bool) → None? ≡ true
+        → kind ≡ cond None? (cond minus? MinusIdentity PlusIdentity) IsIndependent
+        → cond None? (cond minus? MinusIdentity PlusIdentity) IsIndependent ≡ PlusIdentity
     by true true e told =
         absurd (miss (0 ∷ 1 ∷ []) 2 tt (subst (λ k. OneOf (0 ∷ 1 ∷ []) (tag_of the_type k)) told other))
     by true false e told = refl
@@ -91,7 +91,7 @@ module _ (n line : ℕ) (rows : List Pauli) (count : ℕ) where
   stepped-none = record { independent = independent-none n; left = fault-start dependence rows count 0 line refl }
 
   pub stepped-end : {place : ℕ} → Stepped place → count ≤ place
-      → none ≡ first_fault dependence [] line (take count rows)
+      → None ≡ first_fault dependence [] line (take count rows)
   stepped-end {place} s end = sym (fault-end dependence rows count place line (inl end)) ∙ s.left
 
   -- The rows are of n qubits and commute.
@@ -132,8 +132,8 @@ module _ (n line : ℕ) (rows : List Pauli) (count : ℕ) where
           ∙ sym (fault-at dependence rows count place line few inside) ∙ s.left
 
       pub stepped-fault : {kind : Kind} {refusal : Refusal} → kind_of rest ≡ kind
-          → kind_fault (line + place) kind ≡ some refusal
-          → some refusal ≡ first_fault dependence [] line (take count rows)
+          → kind_fault (line + place) kind ≡ Some refusal
+          → Some refusal ≡ first_fault dependence [] line (take count rows)
       unfolding ◌then◌
       stepped-fault e f = ap (λ fault. fault then Left dependence rows count (place + 1) line) (sym f) ∙ found e
 

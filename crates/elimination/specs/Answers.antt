@@ -1,6 +1,5 @@
 -- What the checks of a record's generators answer, in the terms of the definitions.
-use Rattle.std.specs.Prelude.{not, List, [], ℕ, take}
-use Rattle.std.proofs.Math.Option.{Option, none, some}
+use Rattle.std.specs.Prelude.{Option, Some, None, Ok, Err, not, List, [], ℕ, take}
 use Rattle.pauli.specs.declared.Pauli.{Pauli}
 use Rattle.code_record.specs.declared.Code.{Code}
 use Rattle.refusals.specs.declared.Refusal.{Refusal}
@@ -10,13 +9,12 @@ use Rattle.record_limits.specs.Generators.{generators_within}
 use Rattle.stabilizer.specs.Canonical.{canonical_generators}
 use Rattle.stabilizer.specs.Checks.{first_fault, dependence, generator_fault, group_fault}
 use Rattle.reduced_rows.specs.Rows.{reduced_of}
-use Rattle.refusals.specs.declared.Checked.{Checked}
 use Rattle.elimination.specs.declared.Elimination.{Elimination}
 
 -- The canonical generators where there is no fault.
 unfoldable pub eliminated : Option Refusal → ℕ → List Pauli → Elimination
-eliminated none n hs = record { answer = Checked.Passed; reduced = reduced_of n hs }
-eliminated (some refusal) n hs = record { answer = Checked.Refused refusal; reduced = reduced_of 0 [] }
+eliminated None n hs = record { answer = Ok tt; reduced = reduced_of n hs }
+eliminated (Some refusal) n hs = record { answer = Err refusal; reduced = reduced_of 0 [] }
 
 -- 7 and 8 over rows, with the lines of a sheet's generators.
 unfoldable pub independence : ℕ → List Pauli → Elimination

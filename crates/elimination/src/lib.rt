@@ -2,10 +2,8 @@
 // those before it. 7 and 8 and the canonical generators follow from it; 15 and 6 come before them.
 #![tactic(auto)]
 
+ghost use Rattle.std.specs.Result.{result_err};
 ghost use Rattle.std.specs.Prelude.{true, [], ◌≡◌, take};
-ghost use Rattle.std.proofs.Math.Option.{none, some};
-ghost use Rattle.refusals.specs.declared.Checked.TheVariants.{Passed};
-ghost use Rattle.refusals.specs.Refusals.{checked_refusal};
 ghost use Rattle.code_record.specs.Record.{first_generator_at};
 ghost use Rattle.record_limits.specs.Generators.{generators_within};
 ghost use Rattle.stabilizer.specs.Canonical.{canonical_generators};
@@ -20,57 +18,60 @@ use independent_rows::independent_rows;
 use pauli::Pauli;
 use record_limits::{generators_within, within_limits};
 use reduced_rows::{Kind, ReducedRows, kind_of};
-use refusals::{Checked, Family, Refusal};
+use refusals::{Family, Refusal};
 
-// The answer of the checks, and beside it the canonical generators; none of them where it is a refusal.
+// The answer of the checks, and beside it the canonical generators; none of them where it is a refusal. The two stand
+// side by side, and the generators are not in the answer's `Ok`: that none of them stand beside a refusal is promised.
 #[derive(Clone, Copy)]
 pub struct Elimination {
-    pub answer: Checked,
+    pub answer: Result<(), Refusal>,
     pub reduced: ReducedRows,
 }
 
-// Beside a refusal there are no canonical generators.
-fn refused(refusal: Refusal) -> Elimination
-    ensures { result ≡ eliminated (some refusal) 0 [] }
-{
-    Elimination {
-        answer: Checked::Refused(refusal),
-        reduced: ReducedRows::empty(0),
+impl Elimination {
+    // Beside a refusal there are no canonical generators.
+    pub fn refused(refusal: Refusal) -> Elimination
+        ensures { result ≡ eliminated (Some refusal) 0 [] }
+    {
+        Elimination {
+            answer: Err(refusal),
+            reduced: ReducedRows::empty(0),
+        }
     }
 }
 
 // 7 and 8, over rows within limits that pass 6, by what their elimination gave: where not all of them are independent,
 // the first that is not decides. Where they are, what it gave are the canonical generators.
-fn dependence_of(r: usize, g: [Pauli; ROW_ROOM], reduced: ReducedRows) -> Checked
+fn dependence_of(r: usize, g: [Pauli; ROW_ROOM], reduced: ReducedRows) -> Result<(), Refusal>
     requires g_value { generators_within reduced.n r g ≡ true }
-    requires g_value_2 { first_fault clash [] first_generator_at (take r g) ≡ none }
+    requires g_value_2 { first_fault clash [] first_generator_at (take r g) ≡ None }
     requires reduced_value { reduced ≡ reduced_of reduced.n (independent_rows reduced.n [] (take r g)) }
-    ensures result_value { checked_refusal result ≡ first_fault dependence [] first_generator_at (take r g) }
-    ensures reduced_value_2 { result ≡ Passed
+    ensures result_value { result_err result ≡ first_fault dependence [] first_generator_at (take r g) }
+    ensures reduced_value_2 { result ≡ Ok tt
         → reduced ≡ reduced_of reduced.n (canonical_generators reduced.n (take r g)) }
 {
     let place = reduced.count;
     if place == r {
-        return Checked::Passed;
+        return Ok(());
     }
     let line = FIRST_GENERATOR_AT + place;
     let p = g[place];
-    let Kind::MinusIdentity = kind_of(reduced.reduce(p)) else {
-        return Checked::Refused(Refusal::DependentGenerator(line, Family::Generator));
-    };
-    Checked::Refused(Refusal::MinusIdentity(line, Family::Generator))
+    match kind_of(reduced.reduce(p)) {
+        Kind::MinusIdentity => Err(Refusal::MinusIdentity(line, Family::Generator)),
+        _ => Err(Refusal::DependentGenerator(line, Family::Generator)),
+    }
 }
 
 // The same, with the canonical generators. They are taken away where there is a refusal, and not made anew where there
 // is none, which would copy them.
 fn independence(n: usize, r: usize, g: [Pauli; ROW_ROOM]) -> Elimination
     requires g_value { generators_within n r g ≡ true }
-    requires g_value_2 { first_fault clash [] first_generator_at (take r g) ≡ none }
+    requires g_value_2 { first_fault clash [] first_generator_at (take r g) ≡ None }
     ensures { result ≡ independence n (take r g) }
 {
     let mut reduced = independent_rows(n as u32, g, r);
     let answer = dependence_of(r, g, reduced);
-    if let Checked::Refused(_) = answer {
+    if answer.is_err() {
         reduced = ReducedRows::empty(0);
     }
     Elimination { answer, reduced }
@@ -82,15 +83,11 @@ pub fn eliminate_rows(n: usize, r: usize, g: [Pauli; ROW_ROOM]) -> Elimination
     ensures { result ≡ rows_elimination n r g }
 {
     if !generators_within(n, r, g) {
-        return refused(Refusal::RecordLimits);
+        return Elimination::refused(Refusal::RecordLimits);
     }
-    let answer = generators_commute(r, g);
-    let Checked::Passed = answer else {
-        return Elimination {
-            answer,
-            reduced: ReducedRows::empty(0),
-        };
-    };
+    if let Err(refusal) = generators_commute(r, g) {
+        return Elimination::refused(refusal);
+    }
     independence(n, r, g)
 }
 
@@ -99,8 +96,7 @@ pub fn eliminate(code: Code) -> Elimination
     ensures { result ≡ elimination code }
 {
     if !within_limits(code) {
-        return refused(Refusal::RecordLimits);
+        return Elimination::refused(Refusal::RecordLimits);
     }
-    let g = code.g;
-    eliminate_rows(code.n, code.r, g)
+    eliminate_rows(code.n, code.r, code.g)
 }

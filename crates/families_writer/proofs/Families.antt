@@ -1,4 +1,5 @@
 -- The lines of the families: they are those of the rows of each, with their length. And what the call answers.
+use Rattle.std.specs.Prelude.{Ok}
 use mathlib.Core.List.{List, ◌++◌}
 use mathlib.Core.Path.{◌≡◌, refl, ap, ap₂, sym, ◌∙◌}
 use Prim.Native.Nat.{ℕ, ◌+◌, ◌*◌, ◌≤◌}
@@ -6,7 +7,6 @@ use native.Mathlib.Omega.{arith}
 use lib.ListN.{length, length-append}
 use Rattle.letters.specs.Lists.{bytes}
 use Rattle.code_record.specs.declared.Code.{Code}
-use Rattle.refusals.specs.declared.Written.{Written}
 use Rattle.code_record.specs.Record.{most_qubits, row_room, logical_count, generators, logical_xs, logical_zs, Sized}
 use Rattle.sheet.specs.Text.{laid}
 use Rattle.sheet.specs.Writer.{row_lines}
@@ -51,6 +51,6 @@ module _ (c : Code) where
   -- What a caller with room is answered.
   pub families-has-room : (buffer : List ℕ) → 2 ≤ c.n → c.n ≤ most_qubits → length (families_text c) ≤ length buffer
       → write_families c buffer
-      ≡ record { answer = Written.Count (length (families_text c)); buffer = laid (families_text c) buffer }
+      ≡ record { answer = Ok (length (families_text c)); buffer = laid (families_text c) buffer }
   unfolding write_families
   families-has-room buffer low high = written-whole _ _ (qubits-within c.n low high)

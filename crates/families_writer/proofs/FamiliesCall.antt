@@ -1,8 +1,8 @@
-use Rattle.code_record.specs.Record.{qubit_fault}
 -- What is stated of the lines of the families: the call is `written` with its checks, so the laws of every such call
 -- hold of it.
 use mathlib.Core.Path.{refl}
 use Rattle.letters.specs.Lists.{any_of}
+use Rattle.code_record.specs.Record.{qubit_fault}
 use Rattle.sheet.proofs.Numbers.{law-of-refusal, refuse_if-lawful, written-lawful}
 use Rattle.sheet.proofs.Untouched.{written-leaves}
 use Rattle.families_writer.specs.Families.{write_families}

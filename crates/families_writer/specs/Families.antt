@@ -1,7 +1,8 @@
 -- The lines of the rows of a record, family by family, and the call for them.
+use Rattle.refusals.specs.declared.Refusal.{Refusal}
+use Rattle.std.specs.Prelude.{Result}
 use Rattle.std.specs.Prelude.{List, ◌++◌, ℕ, ◌+◌, ◌*◌, min}
 use Rattle.code_record.specs.declared.Code.{Code}
-use Rattle.refusals.specs.declared.Written.{Written}
 use Rattle.code_record.specs.Record.{row_room, pair_count, generators, logical_xs, logical_zs, qubit_fault}
 use Rattle.sheet.specs.Text.{After, written}
 use Rattle.sheet.specs.Writer.{row_lines}
@@ -17,5 +18,5 @@ family_rows n r = min r row_room + 2 * min (pair_count n r) row_room
 
 -- RULES, "Calls and buffers": these lines by themselves, of any record: 15 where n is not 2 to 24, then 17, then the
 -- lines and their length.
-unfoldable pub write_families : Code → List ℕ → After Written
+unfoldable pub write_families : Code → List ℕ → After (Result ℕ Refusal)
 write_families c buffer = written (qubit_fault c.n) (families_text c) buffer

@@ -6,8 +6,8 @@ ghost use Rattle.code_record.specs.Record.{most_qubits};
 ghost use Rattle.sheet.specs.Text.{laid};
 ghost use Rattle.families_writer.specs.Families.{families_text, family_rows, write_families};
 
-use code_record::{Code, pair_count};
-use refusals::{Refusal, Written};
+use code_record::{Code, check_qubits, pair_count};
+use refusals::{Refusal, bytes_written};
 use rows_writer::{rows_there, write_rows};
 
 // The lines of the generators, of the X logicals and of the Z logicals, where there is room for them.
@@ -19,12 +19,9 @@ fn family_lines(out: &mut [u8], code: Code) -> usize
     ensures out_after { out.new ≡ laid (families_text code) out.old }
 {
     let k = pair_count(code.n, code.r);
-    let g = code.g;
-    let x = code.x;
-    let z = code.z;
-    let mut end = write_rows(b'g', code.n, code.r, g, out).count();
-    end += write_rows(b'x', code.n, k, x, &mut out[end..]).count();
-    end += write_rows(b'z', code.n, k, z, &mut out[end..]).count();
+    let mut end = bytes_written(write_rows(b'g', code.n, code.r, code.g, out));
+    end += bytes_written(write_rows(b'x', code.n, k, code.x, &mut out[end..]));
+    end += bytes_written(write_rows(b'z', code.n, k, code.z, &mut out[end..]));
     end
 }
 
@@ -37,19 +34,14 @@ fn row_count(n: usize, r: usize) -> usize
 
 // The lines of a record's rows, into an output buffer: 15 where n is not 2 to 24, then 17 where the buffer is shorter
 // than the lines, then the lines' bytes and their count. The record need not be within limits.
-pub fn write_families(code: Code, out: &mut [u8]) -> Written
+pub fn write_families(code: Code, out: &mut [u8]) -> Result<usize, Refusal>
     ensures value { result ≡ (write_families code out.old).answer }
     ensures out_after { out.new ≡ (write_families code out.old).buffer }
 {
     let n = code.n;
-    if n < 2 {
-        return Written::Refused(Refusal::RecordLimits);
-    }
-    if n > code_record::MOST_QUBITS {
-        return Written::Refused(Refusal::RecordLimits);
-    }
+    check_qubits(n)?;
     if out.len() < row_count(n, code.r) * (n + 4) {
-        return Written::Refused(Refusal::ShortBuffer);
+        return Err(Refusal::ShortBuffer);
     }
-    Written::Count(family_lines(out, code))
+    Ok(family_lines(out, code))
 }

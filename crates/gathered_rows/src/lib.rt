@@ -24,16 +24,19 @@ pub struct Gathered {
 pub fn rows_up_to(s: &[u8], family: Family, most: usize, n: usize) -> Gathered
     ensures { result ≡ gathered (min most row_room) (row_key family) n s.now }
 {
+    let most = most.min(ROW_ROOM);
     let mut rows = [Pauli::identity(); ROW_ROOM];
-    let mut count: usize = 0;
     let mut end: usize = 0;
-    while count < ROW_ROOM && count < most {
-        let RowRead::Got { used, row } = row_reader::row_line(&s[end..], family, n) else {
+    for count in 0..most {
+        let Some(RowRead { used, row }) = row_reader::row_line(&s[end..], family, n) else {
             return Gathered { end, count, rows };
         };
         rows[count] = row;
-        count += 1;
         end += used;
     }
-    Gathered { end, count, rows }
+    Gathered {
+        end,
+        count: most,
+        rows,
+    }
 }

@@ -1,11 +1,11 @@
 -- The lines of n, k, d and t: they are those of two numbers each, with their length. And what the call answers.
+use Rattle.std.specs.Prelude.{Ok}
 use mathlib.Core.List.{List, [], ◌∷◌, ◌++◌, append_assoc}
 use mathlib.Core.Path.{◌≡◌, refl, ap, sym, ◌∙◌}
 use Prim.Native.Nat.{ℕ, ◌+◌, ◌≤◌}
 use native.Mathlib.Omega.{arith}
 use lib.ListN.{length, length-append}
 use Rattle.letters.specs.Lists.{bytes}
-use Rattle.refusals.specs.declared.Written.{Written}
 use Rattle.sheet.specs.Text.{line, decimal, laid}
 use Rattle.sheet.proofs.WrittenText.{written-whole}
 use Rattle.number_writer.specs.Lines.{number_text}
@@ -43,6 +43,6 @@ module _ (n k d t : ℕ) where
   -- What a caller with room is answered.
   pub header-has-room : (buffer : List ℕ) → length (header_text n k d t) ≤ length buffer
       → write_header n k d t buffer
-      ≡ record { answer = Written.Count (length (header_text n k d t)); buffer = laid (header_text n k d t) buffer }
+      ≡ record { answer = Ok (length (header_text n k d t)); buffer = laid (header_text n k d t) buffer }
   unfolding write_header
   header-has-room buffer = written-whole _ buffer refl

@@ -235,11 +235,11 @@ module _ (n : ℕ) (q : Pauli) (rows : List Pauli) (size : ℕ) where
 
 module _ {n : ℕ} {q : Pauli} {rows : List Pauli} {size at : ℕ} {hs : ReducedRows} (c : Clearing n q rows size at hs)
     (end : size ≤ at) where
-  pub cleared-moving : Moving n q (rows_in hs) size at hs
+  pub cleared-moving : Moving n q (rows_in hs) size size hs
   cleared-moving =
       let own = cleared-rows n q rows size c end in
-      moving-none n q (rows_in hs) size c.few (ap length own ∙ length-map rows (cleared n q) ∙ c.sized)
-      (omega (arith, c.within)) (clearing-end n q rows size c end ∙ ap (reduced_of n) (sym own))
+      moving-none n q (rows_in hs) size c.few (ap length own ∙ length-map rows (cleared n q) ∙ c.sized) refl
+      (clearing-end n q rows size c end ∙ ap (reduced_of n) (sym own))
 
   pub placed : {place : ℕ} {moved : ReducedRows} → Moving n q (rows_in hs) size place moved
       → Spread n (map (cleared n q) rows) → (0 < place → pivot n (get_or moved.rows (place - 1) identity) ≤ pivot n q)

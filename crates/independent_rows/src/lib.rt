@@ -17,14 +17,12 @@ pub fn independent_rows(n: u32, rows: [Pauli; ROW_ROOM], count: usize) -> Reduce
 {
     // The rows stand by themselves until they are given back: in a struct they would be copied once more.
     let mut reduced = [Pauli::identity(); ROW_ROOM];
-    let mut place: usize = 0;
-    while place < ROW_ROOM && place < count {
+    let used = count.min(ROW_ROOM);
+    for place in 0..used {
         // What the rows so far leave of the next one.
         let mut left = rows[place];
-        let mut at: usize = 0;
-        while at < place {
+        for at in 0..place {
             left = cleared(n, reduced[at], left);
-            at += 1;
         }
         if is_phase(left) {
             return ReducedRows {
@@ -35,13 +33,13 @@ pub fn independent_rows(n: u32, rows: [Pauli; ROW_ROOM], count: usize) -> Reduce
         }
         // They are cleared by it.
         left = modulo4(left);
-        at = 0;
-        while at < place {
+        for at in 0..place {
             reduced[at] = cleared(n, left, reduced[at]);
-            at += 1;
         }
-        // It is put in its place: those whose first ones come behind its own move up, the last one first.
+        // It is put in its place: those whose first ones come behind its own move up, the last one first. The loop is a
+        // `while`: it ends at the first that stays, and where it ended is the place.
         let first = pivot(n, left);
+        let mut at = place;
         while at > 0 {
             let last = reduced[at - 1];
             if pivot(n, last) <= first {
@@ -51,11 +49,10 @@ pub fn independent_rows(n: u32, rows: [Pauli; ROW_ROOM], count: usize) -> Reduce
             at -= 1;
         }
         reduced[at] = left;
-        place += 1;
     }
     ReducedRows {
         n,
-        count: place,
+        count: used,
         rows: reduced,
     }
 }

@@ -1,7 +1,9 @@
 -- The masks of a string with a letter and letters I before it, and what an answer tells.
-use mathlib.Core.Bool.{Bool, true, false, false≢true}
+use Rattle.std.specs.Prelude.{Option, Some, None}
+use Rattle.std.specs.Option.{is_some}
+use Rattle.letter_sums.specs.Sums.{masks_at}
+use mathlib.Core.Bool.{true, false, false≢true}
 use mathlib.Core.List.{List, ◌∷◌, ◌++◌}
-use mathlib.Core.Option.{Option, none, some}
 use mathlib.Core.Path.{◌≡◌, refl, ap, ap₂, sym, ◌∙◌}
 use Prim.Native.Nat.{ℕ, zero, suc, ◌+◌, ◌*◌, ◌%◌, ◌^◌, ◌≤◌, ◌<◌}
 use native.Mathlib.Nat.{zero-add, mul-one, mul_assoc, mul_comm, pow-succ', pow-le-pow_right, lt_of_lt_of_le}
@@ -14,7 +16,7 @@ use Rattle.letters.specs.declared.Letter.{Letter}
 use Rattle.letters.specs.declared.Letter.TheVariants.{I}
 use Rattle.letters.specs.Letters.{x_bit, z_bit}
 use Rattle.pauli.specs.Letters.{mask_of, x_mask, z_mask}
-use Rattle.letter_sums.specs.declared.Found.{Found}
+use Rattle.letter_sums.specs.declared.FoundMasks.{FoundMasks}
 use Rattle.letter_sums.specs.Sums.{found_as, placed_at}
 
 -- ---- letters I before
@@ -57,12 +59,12 @@ module _ (gap right : ℕ) (room : gap + right < 32) where
 -- ---- strings as answers
 
 pub placed-found : (gap a b : ℕ) (l : Letter) (s : List Letter) (o : Option (List Letter))
-    → a ≡ x_mask s → b ≡ z_mask s → o ≡ some (replicate gap I ++ (l ∷ s))
+    → a ≡ x_mask s → b ≡ z_mask s → o ≡ Some (replicate gap I ++ (l ∷ s))
     → placed_at gap l a b ≡ found_as o
 unfolding found_as x_mask z_mask mask_of
 placed-found gap a b l s o ea eb e =
     rw (e, ea, eb)
-    (ap₂ Found.At (sym (mask-padded x_bit refl gap (l ∷ s))) (sym (mask-padded z_bit refl gap (l ∷ s))))
+    (ap₂ masks_at (sym (mask-padded x_bit refl gap (l ∷ s))) (sym (mask-padded z_bit refl gap (l ∷ s))))
 
 x_mask-identity : (n : ℕ) → 0 ≡ x_mask (replicate n I)
 unfolding x_mask
@@ -72,47 +74,50 @@ z_mask-identity : (n : ℕ) → 0 ≡ z_mask (replicate n I)
 unfolding z_mask
 z_mask-identity n = sym (mask-identity z_bit refl n)
 
-pub identity-found : (n : ℕ) (o : Option (List Letter)) → o ≡ some (replicate n I) → Found.At 0 0 ≡ found_as o
+pub identity-found : (n : ℕ) (o : Option (List Letter)) → o ≡ Some (replicate n I) → masks_at 0 0 ≡ found_as o
 unfolding found_as
-identity-found n o e = rw e (ap₂ Found.At (x_mask-identity n) (z_mask-identity n))
+identity-found n o e = rw e (ap₂ masks_at (x_mask-identity n) (z_mask-identity n))
 
-pub nothing-found : (o : Option (List Letter)) → o ≡ none → Found.Nothing ≡ found_as o
+pub nothing-found : (o : Option (List Letter)) → o ≡ None → None ≡ found_as o
 unfolding found_as
 nothing-found o e = ap found_as (sym e)
 
 -- ---- what an answer tells
 
-mask_a : Found → ℕ
-mask_a (Found.At a b) = a
-mask_a Found.Nothing = 0
+mask_a : Option FoundMasks → ℕ
+mask_a (Some masks) = masks.a
+mask_a None = 0
 
-mask_b : Found → ℕ
-mask_b (Found.At a b) = b
-mask_b Found.Nothing = 0
-
-is_found : Found → Bool
-is_found (Found.At a b) = true
-is_found Found.Nothing = false
+mask_b : Option FoundMasks → ℕ
+mask_b (Some masks) = masks.b
+mask_b None = 0
 
 -- A string was found, and these are its masks.
 pub record Masked (o : Option (List Letter)) (a b : ℕ) : Type 0 where
   pub string : List Letter
-  pub told : o ≡ some string
+  pub told : o ≡ Some string
   pub is_a : a ≡ x_mask string
   pub is_b : b ≡ z_mask string
 
-pub found_some : (a b : ℕ) (o : Option (List Letter)) → Found.At a b ≡ found_as o → Masked o a b
-unfolding found_as mask_a mask_b is_found
-found_some a b none e = absurd (false≢true (sym (ap is_found e)))
-found_some a b (some s) e = record { string = s; told = refl; is_a = ap mask_a e; is_b = ap mask_b e }
+pub found_some : (a b : ℕ) (o : Option (List Letter)) → masks_at a b ≡ found_as o → Masked o a b
+unfolding found_as mask_a mask_b
+found_some a b None e = absurd (false≢true (sym (ap is_some e)))
+found_some a b (Some s) e = record { string = s; told = refl; is_a = ap mask_a e; is_b = ap mask_b e }
 
-pub found_nothing : (o : Option (List Letter)) → Found.Nothing ≡ found_as o → o ≡ none
-unfolding found_as is_found
-found_nothing none e = refl
-found_nothing (some s) e = absurd (false≢true (ap is_found e))
-
--- The same string, found among more strings, has these masks.
-pub found-again : (a b : ℕ) (o more : Option (List Letter)) (m : Masked o a b) → more ≡ some m.string
-    → Found.At a b ≡ found_as more
+pub found_nothing : (o : Option (List Letter)) → None ≡ found_as o → o ≡ None
 unfolding found_as
-found-again a b o more m e = rw e (ap₂ Found.At m.is_a m.is_b)
+found_nothing None e = refl
+found_nothing (Some s) e = absurd (false≢true (ap is_some e))
+
+-- No masks are of no string.
+pub unfound : (found : Option FoundMasks) (o : Option (List Letter)) → found ≡ found_as o → is_some found ≡ false
+    → o ≡ None
+unfound None o e none = found_nothing o e
+unfound (Some masks) o e none = absurd (false≢true (sym none))
+
+-- The same string, found among more strings, has the same masks.
+pub found-again : (found : Option FoundMasks) (o more : Option (List Letter)) → found ≡ found_as o
+    → is_some found ≡ true → ((s : List Letter) → o ≡ Some s → more ≡ Some s) → found ≡ found_as more
+unfolding found_as
+found-again found None more e there same = absurd (false≢true (sym (ap is_some e) ∙ there))
+found-again found (Some s) more e there same = e ∙ ap found_as (sym (same s refl))

@@ -1,8 +1,8 @@
 -- The steps of the search at words: the state is what is still wanted and shunned, and a letter takes its words away
 -- from it. The last letter is found by its word.
+use Rattle.std.specs.Prelude.{Option, Some, None}
 use mathlib.Core.Bool.{Bool, true, false, not, ◌&&◌, and-false}
 use mathlib.Core.List.{List, ◌∷◌, ◌++◌}
-use mathlib.Core.Option.{Option, none, some}
 use mathlib.Core.Path.{◌≡◌, refl, ap, ap₂, sym, subst, ◌∙◌}
 use Prim.Native.Nat.{ℕ, zero, suc, ◌+◌, ◌*◌, ◌-◌, ◌/◌, ◌%◌, ◌^◌, min, ◌≤◌, ◌<◌}
 use native.Mathlib.Decide.{ℕ_discrete}
@@ -17,7 +17,6 @@ use Rattle.letters.specs.declared.Letter.TheVariants.{I}
 use Rattle.letters.specs.Letters.{struck_letter}
 use Rattle.pauli.proofs.Letters.{x_mask-lt, z_mask-lt}
 use Rattle.pauli.proofs.Masks.{xor_assoc}
-use Rattle.letter_sums.specs.declared.Found.{Found}
 use Rattle.letter_sums.specs.Sums.{word_at, sum_of, sums_to, passes, earliest_of, earliest_up_to, placed_at, found_as}
 use Rattle.letter_sums.proofs.Masks.{Masked, found_some, identity-found, nothing-found, placed-found}
 use Rattle.letter_sums.proofs.Steps as steps
@@ -83,7 +82,7 @@ module _ (words second : List ℕ) where
 
   -- None among the first k of the letters X, Y, Z there.
   abbrev pub NoneBelow : ℕ → ℕ → ℕ → ℕ → ℕ → Type 0
-  NoneBelow n v want shun k = (j : ℕ) → j < k → behind n v want shun j ≡ none
+  NoneBelow n v want shun k = (j : ℕ) → j < k → behind n v want shun j ≡ None
 
   at-number : (n v want shun k : ℕ) → k < 3
       → steps.first test after moves still n v (after n (struck_letter k) (want, shun)) ≡ behind n v want shun k
@@ -92,26 +91,26 @@ module _ (words second : List ℕ) where
       ap₂ (λ (x y : ℕ). earliest_of words second n v (bit_xor want x) (bit_xor shun y)) (word_number words n k h)
       (word_number second n k h)
 
-  pub found-length : (n v want shun : ℕ) (s : List Letter) → earliest_of words second n v want shun ≡ some s
+  pub found-length : (n v want shun : ℕ) (s : List Letter) → earliest_of words second n v want shun ≡ Some s
       → length s ≡ n
   unfolding first earliest_of
   found-length n v want shun s e = steps.first-length test after moves still n v (want, shun) s e
 
-  pub none-short : (n v want shun : ℕ) → n < v → earliest_of words second n v want shun ≡ none
+  pub none-short : (n v want shun : ℕ) → n < v → earliest_of words second n v want shun ≡ None
   unfolding first earliest_of
   none-short n v want shun h = steps.none-short test after moves still n v (want, shun) h
 
-  pub none-to-the-right : (n w want shun : ℕ) → 0 < w → earliest_of words second n w want shun ≡ none
-      → NoneBelow n (w - 1) want shun 3 → earliest_of words second (n + 1) w want shun ≡ none
+  pub none-to-the-right : (n w want shun : ℕ) → 0 < w → earliest_of words second n w want shun ≡ None
+      → NoneBelow n (w - 1) want shun 3 → earliest_of words second (n + 1) w want shun ≡ None
   unfolding first earliest_of
   none-to-the-right n w want shun h before each =
       steps.none-to-the-right test after moves still n w (want, shun) h before
       λ j l. at-number n (w - 1) want shun j l ∙ each j l
 
   pub found_here : (n w want shun right k : ℕ) (s : List Letter) → 0 < w → right < n → k < 3
-      → earliest_of words second right w want shun ≡ none → NoneBelow right (w - 1) want shun k
-      → behind right (w - 1) want shun k ≡ some s
-      → earliest_of words second n w want shun ≡ some (replicate (n - right - 1) I ++ (struck_letter k ∷ s))
+      → earliest_of words second right w want shun ≡ None → NoneBelow right (w - 1) want shun k
+      → behind right (w - 1) want shun k ≡ Some s
+      → earliest_of words second n w want shun ≡ Some (replicate (n - right - 1) I ++ (struck_letter k ∷ s))
   unfolding first earliest_of
   found_here n w want shun right k s h below hk before each here =
       steps.found_here test after moves still n w (want, shun) right k s h below hk before
@@ -119,7 +118,7 @@ module _ (words second : List ℕ) where
       (at-number right (w - 1) want shun k hk ∙ here)
 
   pub found_nowhere : (n w want shun right : ℕ) → 0 < w → n ≤ right
-      → earliest_of words second right w want shun ≡ none → earliest_of words second n w want shun ≡ none
+      → earliest_of words second right w want shun ≡ None → earliest_of words second n w want shun ≡ None
   unfolding first earliest_of
   found_nowhere n w want shun right h le before =
       steps.found_nowhere test after moves still n w (want, shun) right h le before
@@ -136,10 +135,10 @@ module _ (words second : List ℕ) where
   -- ---- the weights in turn
 
   abbrev pub NoneLighter : ℕ → ℕ → ℕ → ℕ → Type 0
-  NoneLighter n want shun w = (v : ℕ) → v < w → earliest_of words second n v want shun ≡ none
+  NoneLighter n want shun w = (v : ℕ) → v < w → earliest_of words second n v want shun ≡ None
 
   pub up-to-none : (n t want shun w : ℕ) → t < w → NoneLighter n want shun w
-      → earliest_up_to words second n t want shun ≡ none
+      → earliest_up_to words second n t want shun ≡ None
   unfolding first first_up_to earliest_of earliest_up_to
   up-to-none n t want shun w h each = steps.up-to-none test after moves still n t (want, shun) w h each
 
@@ -150,7 +149,7 @@ module _ (words second : List ℕ) where
   up-to-all n t want shun = steps.up-to-all test after moves still n t (want, shun)
 
   pub up-to-some : (n t want shun w : ℕ) (s : List Letter) → w ≤ t → NoneLighter n want shun w
-      → earliest_of words second n w want shun ≡ some s → earliest_up_to words second n t want shun ≡ some s
+      → earliest_of words second n w want shun ≡ Some s → earliest_up_to words second n t want shun ≡ Some s
   unfolding first first_up_to earliest_of earliest_up_to
   up-to-some n t want shun w s h each here = steps.up-to-some test after moves still n t (want, shun) w s h each here
 
@@ -159,19 +158,19 @@ module _ (words second : List ℕ) where
   -- I has the words 0 and 0: they are the wanted one and not the shunned one, or nothing is found.
   weightless : (n want shun : ℕ)
       → earliest_of words second n 0 want shun
-      ≡ elim (eqb 0 want && not (eqb 0 shun)) [ true ↦ some (replicate n I) | false ↦ none ]
+      ≡ elim (eqb 0 want && not (eqb 0 shun)) [ true ↦ Some (replicate n I) | false ↦ None ]
   unfolding first earliest_of passes sums_to sum_of
   weightless n want shun = steps.weightless test after moves still n (want, shun)
 
   pub identity-fits : (n want shun : ℕ) → want ≡ 0 → (shun ≡ 0 → ⊥)
-      → earliest_of words second n 0 want shun ≡ some (replicate n I)
+      → earliest_of words second n 0 want shun ≡ Some (replicate n I)
   identity-fits n want shun e h =
       weightless n want shun ∙ rw (eq-eqb 0 want (sym e), ne_eqb 0 shun (λ q. h (sym q)))
 
-  pub identity-unwanted : (n want shun : ℕ) → (want ≡ 0 → ⊥) → earliest_of words second n 0 want shun ≡ none
+  pub identity-unwanted : (n want shun : ℕ) → (want ≡ 0 → ⊥) → earliest_of words second n 0 want shun ≡ None
   identity-unwanted n want shun h = weightless n want shun ∙ rw (ne_eqb 0 want (λ q. h (sym q)))
 
-  pub identity-shunned : (n want shun : ℕ) → shun ≡ 0 → earliest_of words second n 0 want shun ≡ none
+  pub identity-shunned : (n want shun : ℕ) → shun ≡ 0 → earliest_of words second n 0 want shun ≡ None
   identity-shunned n want shun e = weightless n want shun ∙ rw (eq-eqb 0 shun (sym e), and-false (eqb 0 want))
 
   -- ---- one letter left
@@ -180,27 +179,27 @@ module _ (words second : List ℕ) where
   abbrev pub PassedOver : ℕ → ℕ → ℕ → Type 0
   PassedOver want shun j = get_or words j 0 ≡ want → get_or second j 0 ≡ shun
 
-  none-behind : (n want shun k : ℕ) → PassedOver want shun (3 * n + k) → behind n 0 want shun k ≡ none
+  none-behind : (n want shun k : ℕ) → PassedOver want shun (3 * n + k) → behind n 0 want shun k ≡ None
   none-behind n want shun k over = elim (ℕ_discrete (get_or words (3 * n + k) 0) want) [
     | yes own ↦ identity-shunned n _ _ (ap (bit_xor shun) (over own) ∙ xor_self shun)
     | no other ↦ identity-unwanted n _ _ (λ q. other (same-words want _ q))
   ]
 
   none-lone : (n want shun : ℕ) → ((j : ℕ) → j < 3 * n → PassedOver want shun j)
-      → earliest_of words second n 1 want shun ≡ none
+      → earliest_of words second n 1 want shun ≡ None
   none-lone zero want shun each = none-short 0 1 want shun (omega arith)
   none-lone (suc n) want shun each =
-      subst (λ (m : ℕ). earliest_of words second m 1 want shun ≡ none) (add-one n)
+      subst (λ (m : ℕ). earliest_of words second m 1 want shun ≡ None) (add-one n)
       (none-to-the-right n 1 want shun (omega arith) (none-lone n want shun (λ j l. each j (omega arith)))
       (λ k l. none-behind n want shun k (each (3 * n + k) (omega arith))))
 
   -- So nothing is found where no letter has the wanted word.
   pub none-single : (n want shun : ℕ) → ((j : ℕ) → j < 3 * n → get_or words j 0 ≡ want → ⊥)
-      → earliest_of words second n 1 want shun ≡ none
+      → earliest_of words second n 1 want shun ≡ None
   none-single n want shun each = none-lone n want shun (λ j l own. absurd (each j l own))
 
   pub lone-nowhere : (n want shun place : ℕ) → 3 * n ≤ place → ((j : ℕ) → j < place → PassedOver want shun j)
-      → Found.Nothing ≡ found_as (earliest_of words second n 1 want shun)
+      → None ≡ found_as (earliest_of words second n 1 want shun)
   lone-nowhere n want shun place end each =
       nothing-found _ (none-lone n want shun (λ j l. each j (omega arith)))
 
@@ -212,7 +211,7 @@ module _ (words second : List ℕ) where
       let right = place / 3 in
       let k = place % 3 in
       let at : 3 * right + k ≡ place = omega arith in
-      let rest = found_some 0 0 (some (replicate right I)) (identity-found right (some (replicate right I)) refl) in
+      let rest = found_some 0 0 (Some (replicate right I)) (identity-found right (Some (replicate right I)) refl) in
       placed-found (n - right - 1) 0 0 (struck_letter k) rest.string _ rest.is_a rest.is_b
       (found_here n 1 want shun right k rest.string (omega arith) (omega arith) (omega arith)
       (none-lone right want shun (λ j l. each j (omega arith)))

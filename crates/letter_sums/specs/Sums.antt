@@ -1,7 +1,7 @@
 -- The search through strings of letters by words: each letter at each qubit has two, and a string the sums of its
 -- letters' words, bit by bit.
+use Rattle.std.specs.Prelude.{Option, Some, None}
 use Rattle.std.specs.Prelude.{Bool, not, ◌&&◌, List, [], ◌∷◌, ℕ, zero, suc, ◌+◌, ◌*◌, ◌^◌, min, eqb, get_or}
-use Rattle.std.proofs.Math.Option.{Option, none, some}
 use Rattle.std.specs.Int.Bits.{bit_xor}
 use Rattle.letters.specs.declared.Letter.{Letter}
 use Rattle.letters.specs.declared.Letter.TheVariants.{I, X, Y, Z}
@@ -9,7 +9,7 @@ use Rattle.letters.specs.Letters.{x_bit, z_bit}
 use Rattle.letters.specs.Lists.{first_of}
 use Rattle.pauli.specs.Letters.{x_mask, z_mask}
 use Rattle.pauli.specs.Order.{strings, strings_up_to}
-use Rattle.letter_sums.specs.declared.Found.{Found}
+use Rattle.letter_sums.specs.declared.FoundMasks.{FoundMasks}
 use Rattle.letter_sums.specs.declared.LetterWords.{LetterWords}
 
 -- There are words for as many qubits as a mask has bits.
@@ -43,20 +43,20 @@ earliest_of first second n v want shun = first_of (passes first second n want sh
 unfoldable pub earliest_up_to : List ℕ → List ℕ → ℕ → ℕ → ℕ → ℕ → Option (List Letter)
 earliest_up_to first second n t want shun = first_of (passes first second n want shun) (strings_up_to n t)
 
+-- The masks of a string that was found.
+abbrev pub masks_at : ℕ → ℕ → Option FoundMasks
+masks_at a b = Some (record { a = a; b = b })
+
 -- A string that was found, as its masks.
-unfoldable pub found_as : Option (List Letter) → Found
-found_as none = Found.Nothing
-found_as (some s) = Found.At (x_mask s) (z_mask s)
+unfoldable pub found_as : Option (List Letter) → Option FoundMasks
+found_as None = None
+found_as (Some s) = masks_at (x_mask s) (z_mask s)
 
 -- The masks of `gap` letters I, a letter, and a string with the masks a and b behind it.
-abbrev pub placed_at : ℕ → Letter → ℕ → ℕ → Found
-placed_at gap l a b = Found.At ((x_bit l + 2 * a) * 2 ^ gap) ((z_bit l + 2 * b) * 2 ^ gap)
-
--- The words that two arrays hold, for so many qubits.
-abbrev pub words_in : ℕ → List ℕ → List ℕ → LetterWords
-words_in qubits first second = record { qubits = qubits; first = first; second = second }
+abbrev pub placed_at : ℕ → Letter → ℕ → ℕ → Option FoundMasks
+placed_at gap l a b = masks_at ((x_bit l + 2 * a) * 2 ^ gap) ((z_bit l + 2 * b) * 2 ^ gap)
 
 -- The call: the earliest string of weight at most t on the qubits that have words.
-unfoldable pub earliest_by : LetterWords → ℕ → ℕ → ℕ → Found
+unfoldable pub earliest_by : LetterWords → ℕ → ℕ → ℕ → Option FoundMasks
 earliest_by words t want shun =
     found_as (earliest_up_to words.first words.second (min words.qubits qubit_room) t want shun)

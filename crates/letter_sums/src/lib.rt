@@ -15,9 +15,9 @@ pub struct LetterWords {
     pub second: [u64; WORD_ROOM],
 }
 
-// The masks of the string that was found.
+// The masks of a string of letters: of its X parts, and of its Z parts.
 #[derive(Clone, Copy)]
-pub enum Found {
-    At { a: u32, b: u32 },
-    Nothing,
+pub struct FoundMasks {
+    pub a: u32,
+    pub b: u32,
 }

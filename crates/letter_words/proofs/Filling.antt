@@ -53,27 +53,29 @@ module _ {word : Pauli → ℕ} {put : List ℕ → LetterWords} {n at : ℕ} {w
       let end : at ≡ 3 * n = omega (arith, filling.within) in
       filling.filled ∙ ap (λ (end : ℕ). put (filled_words (word_for word n) end)) end
 
--- The words of one qubit's letters, which stand side by side.
-module _ (word : Pauli → ℕ) (n at qubit : ℕ) (first : at + 3 * (qubit + 1) ≡ 3 * n) where
-  letter_at : (i k : ℕ) → i ≡ at + k → k < 3 → word (single_letter qubit (struck_letter k)) ≡ word_for word n i
+-- The words of the letters at one qubit, which stand side by side.
+module _ (word : Pauli → ℕ) (n right qubit : ℕ) (first : qubit + (right + 1) ≡ n) where
+  letter_at : (i k : ℕ) → i ≡ 3 * right + k → k < 3 → word (single_letter qubit (struck_letter k)) ≡ word_for word n i
   unfolding letter_for
   letter_at i k e h =
       let place : qubit ≡ n - 1 - i / 3 = omega arith in
       let number : k ≡ i % 3 = omega arith in
       ap₂ (λ (place number : ℕ). word (single_letter place (struck_letter number))) place number
 
-  pub three-more : {put : List ℕ → LetterWords} {words : LetterWords} → Filling word put n at words
+  pub three-more : {put : List ℕ → LetterWords} {words : LetterWords} → Filling word put n (3 * right) words
       → (store : ℕ → LetterWords → ℕ → LetterWords)
       → ((i : ℕ) (table : List ℕ) (m : ℕ) → store i (put table) m ≡ put (set table i m)) → {x y z : ℕ}
       → x ≡ word (single_letter qubit X) → y ≡ word (single_letter qubit Y) → z ≡ word (single_letter qubit Z)
-      → Filling word put n (at + 3) (store (at + 2) (store (at + 1) (store at words x) y) z)
+      → let at = 3 * right in
+      Filling word put n (3 * (right + 1)) (store (at + 2) (store (at + 1) (store at words x) y) z)
   unfolding struck_letter
   three-more filling store stores of_x of_y of_z =
+      let at = 3 * right in
       let x =
       one_more filling (at + 1) (omega arith) (omega arith) (store at) (stores at)
       (of_x ∙ letter_at at 0 (omega arith) (omega arith)) in
       let y =
       one_more x (at + 2) (omega arith) (omega arith) (store (at + 1)) (stores (at + 1))
       (of_y ∙ letter_at (at + 1) 1 (omega arith) (omega arith)) in
-      one_more y (at + 3) (omega arith) (omega arith) (store (at + 2)) (stores (at + 2))
+      one_more y (3 * (right + 1)) (omega arith) (omega arith) (store (at + 2)) (stores (at + 2))
       (of_z ∙ letter_at (at + 2) 2 (omega arith) (omega arith))

@@ -103,9 +103,6 @@ module _ {code : Code} {qubit place both : ℕ} (words : WordsFrom code qubit pl
   pub x-read : both / 2 ^ 32 ≡ word X
   x-read = omega (arith, words.halves, whole X, whole Z, word_fits Z)
 
-  pub x_fits : both / 2 ^ 32 < 2 ^ 32
-  x_fits = omega (arith, x-read, word_fits X)
-
   pub z-read : both % 2 ^ 32 ≡ word Z
   z-read = omega (arith, words.halves, whole X, whole Z, word_fits Z)
 

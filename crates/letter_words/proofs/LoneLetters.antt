@@ -1,8 +1,8 @@
 -- The earliest string of one letter, from the sets of qubits at which X, Y and Z have the wanted syndrome: the last
 -- qubit of any set, and the first letter there.
+use Rattle.std.specs.Prelude.{Some, None}
 use mathlib.Core.Bool.{Bool, true, false, true≢false, not, ◌&&◌, and-true}
 use mathlib.Core.List.{List}
-use mathlib.Core.Option.{none, some}
 use mathlib.Core.Path.{◌≡◌, ap, ap₂, sym, ◌∙◌}
 use Prim.Native.Nat.{ℕ, zero, suc, ◌+◌, ◌-◌, ◌*◌, ◌/◌, ◌%◌, ◌^◌, ◌<◌, ◌≤◌}
 use native.Mathlib.Decide.{ℕ_discrete}
@@ -21,7 +21,6 @@ use Rattle.pauli.proofs.EarlierOrder.{strings-listed}
 use Rattle.pauli.proofs.First.{same-search}
 use Rattle.code_record.specs.declared.Code.{Code}
 use Rattle.code_record.specs.Record.{generators}
-use Rattle.letter_sums.specs.declared.Found.{Found}
 use Rattle.letter_sums.specs.Sums.{sums_to, passes, earliest_of, earliest_up_to, placed_at, found_as}
 use Rattle.letter_sums.proofs.Words.{identity-fits, identity-unwanted, PassedOver, lone-nowhere, lone-here}
 use Rattle.letter_sums.proofs.Words.{up-to-some, up-to-none}
@@ -83,26 +82,26 @@ module _ (c : Code) (want : ℕ) where
   on-words : (t : ℕ) → earliest_up_to first second (word_qubits c) t want 1 ≡ earliest_with c t want
   on-words t = (syndromes-are-summed c).found t want
 
-  pub none_needed : want ≡ 0 → (t : ℕ) → earliest_with c t want ≡ some (replicate (word_qubits c) I)
+  pub none_needed : want ≡ 0 → (t : ℕ) → earliest_with c t want ≡ Some (replicate (word_qubits c) I)
   none_needed e t =
       sym (on-words t)
       ∙ up-to-some first second (word_qubits c) t want 1 0 _ (omega arith) (below_none _)
       (identity-fits first second (word_qubits c) want 1 e (λ one. absurd (omega arith)))
 
   module _ (struck : want ≡ 0 → ⊥) where
-    unstruck : (v : ℕ) → v < 1 → earliest_of first second (word_qubits c) v want 1 ≡ none
+    unstruck : (v : ℕ) → v < 1 → earliest_of first second (word_qubits c) v want 1 ≡ None
     unstruck = below_more _ 0 (below_none _) (identity-unwanted first second (word_qubits c) want 1 struck)
 
-    pub none_allowed : (t : ℕ) → t < 1 → earliest_with c t want ≡ none
+    pub none_allowed : (t : ℕ) → t < 1 → earliest_with c t want ≡ None
     none_allowed t few = sym (on-words t) ∙ up-to-none first second (word_qubits c) t want 1 1 few unstruck
 
-    pub one-is-enough : (t : ℕ) → 1 ≤ t → (s : List Letter) → lone_letter c want ≡ some s
-        → earliest_with c t want ≡ some s
+    pub one-is-enough : (t : ℕ) → 1 ≤ t → (s : List Letter) → lone_letter c want ≡ Some s
+        → earliest_with c t want ≡ Some s
     one-is-enough t room s found =
         sym (on-words t)
         ∙ up-to-some first second (word_qubits c) t want 1 1 s room unstruck (sym lone-by-words ∙ found)
 
-    pub one-is-not-enough : (t : ℕ) → t < 2 → lone_letter c want ≡ none → earliest_with c t want ≡ none
+    pub one-is-not-enough : (t : ℕ) → t < 2 → lone_letter c want ≡ None → earliest_with c t want ≡ None
     one-is-not-enough t few nothing =
         sym (on-words t)
         ∙ up-to-none first second (word_qubits c) t want 1 2 few
@@ -134,7 +133,7 @@ module _ (c : Code) (want : ℕ) where
         absurd
         (true≢false (sym (fitting ∙ eq-eqb _ want (ap (λ (i : ℕ). get_or first i 0) at ∙ own)) ∙ unfit))
 
-    pub none-fits : NoneFrom sets (word_qubits c) 0 → Found.Nothing ≡ found_as (lone_letter c want)
+    pub none-fits : NoneFrom sets (word_qubits c) 0 → None ≡ found_as (lone_letter c want)
     none-fits nothing =
         lone-nowhere first second (word_qubits c) want 1 (3 * word_qubits c) (omega arith)
         (λ j l. passed_over j l (nothing _ (j % 3) (omega arith) (omega arith) (omega arith)))

@@ -1,6 +1,6 @@
 -- A letter by itself that has a given syndrome, which is looked for at all qubits at once.
+use Rattle.std.specs.Prelude.{Option}
 use Rattle.std.specs.Prelude.{cond, List, ◌≡◌, ℕ, ◌/◌, ◌%◌, ◌^◌, ◌<◌, eqb}
-use Rattle.std.proofs.Math.Option.{Option}
 use Rattle.std.specs.Int.Bits.{bit_and, bit_xor}
 use Rattle.letters.specs.declared.Letter.{Letter}
 use Rattle.letters.specs.declared.Letter.TheVariants.{X, Y, Z}

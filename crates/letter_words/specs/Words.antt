@@ -1,7 +1,7 @@
 -- The words of a code's letters, by which the search goes through its errors: what a function of Paulis is of each of
 -- X, Y, Z at each qubit.
+use Rattle.std.specs.Prelude.{Option}
 use Rattle.std.specs.Prelude.{cond, List, [], ◌∷◌, ℕ, zero, suc, ◌+◌, ◌-◌, ◌*◌, ◌/◌, ◌%◌, ◌^◌, min, eqb, ltb, replicate}
-use Rattle.std.proofs.Math.Option.{Option}
 use Rattle.letters.specs.declared.Letter.{Letter}
 use Rattle.letters.specs.declared.Sign.TheVariants.{Plus}
 use Rattle.letters.specs.Letters.{x_bit, z_bit, struck_letter}

@@ -2,25 +2,15 @@
 // syndrome as a mask. A letter by itself with a given syndrome is found without words.
 #![tactic(auto)]
 
-ghost use Rattle.std.specs.Prelude.{cond, ◌≡◌, ◌+◌, ◌*◌, ◌/◌, ◌%◌, ◌^◌, ◌<◌, min, eqb};
+ghost use Rattle.std.specs.Prelude.{cond, ◌≡◌, ◌+◌, ◌*◌, ◌/◌, ◌%◌, ◌^◌, ◌<◌, eqb};
 ghost use Rattle.code_record.specs.Record.{generators};
 ghost use Rattle.letter_sums.specs.Sums.{qubit_room, found_as};
 ghost use Rattle.letter_words.specs.Words.{syndrome_words, with_generators};
 ghost use Rattle.letter_words.specs.Lone.{lone_letter, AreCandidates};
 
 use code_record::{Code, ROW_ROOM};
-use letter_sums::{Found, LetterWords, QUBIT_ROOM, WORD_ROOM};
+use letter_sums::{FoundMasks, LetterWords, QUBIT_ROOM, WORD_ROOM};
 use pauli::Pauli;
-
-// The lesser of a number and the room there is for it.
-fn at_most(room: usize, n: usize) -> usize
-    ensures { result ≡ min n room }
-{
-    if n < room {
-        return n;
-    }
-    room
-}
 
 // The bits of a row's masks at a qubit: that of the X mask at the place 0, and that of the Z mask at the place 32.
 fn bits_at(row: Pauli, qubit: usize) -> u64
@@ -39,30 +29,26 @@ fn bits_at(row: Pauli, qubit: usize) -> u64
 fn words_of(n: usize, r: usize, g: [Pauli; ROW_ROOM]) -> LetterWords
     ensures { result ≡ syndrome_words (with_generators n r g) }
 {
-    let qubits = at_most(QUBIT_ROOM, n);
-    let count = at_most(ROW_ROOM, r);
+    let qubits = n.min(QUBIT_ROOM);
+    let count = r.min(ROW_ROOM);
     let mut words = LetterWords {
         qubits,
         first: [0; WORD_ROOM],
         second: [0; WORD_ROOM],
     };
-    let mut qubit = qubits;
-    let mut at: usize = 0;
-    while qubit > 0 {
-        qubit -= 1;
+    for right in 0..qubits {
+        let qubit = qubits - 1 - right;
         let mut both: u64 = 0;
-        let mut place = count;
-        while place > 0 {
-            place -= 1;
+        for place in (0..count).rev() {
             let row = g[place];
             both = 2 * both + bits_at(row, qubit);
         }
         let x = (both >> 32) as u32;
         let z = (both % 4294967296) as u32;
+        let at = 3 * right;
         words.first[at] = x;
         words.first[at + 1] = x ^ z;
         words.first[at + 2] = z;
-        at += 3;
     }
     words
 }
@@ -96,44 +82,38 @@ fn all_or_none(number: u64) -> u32
 fn candidates(r: usize, g: [Pauli; ROW_ROOM], syndrome: u32) -> LetterSets
     ensures { AreCandidates (generators (with_generators 0 r g)) syndrome result }
 {
-    let count = at_most(ROW_ROOM, r);
+    let count = r.min(ROW_ROOM);
     let all = all_or_none((syndrome as u64) >> count);
     let mut x = all;
     let mut y = all;
     let mut z = all;
-    let mut place = count;
-    while place > 0 {
-        place -= 1;
+    for place in (0..count).rev() {
         let row = g[place];
         let turned = all_or_none(((syndrome >> place) % 2) as u64);
-        x = x & (row.b ^ turned);
-        y = y & ((row.a ^ row.b) ^ turned);
-        z = z & (row.a ^ turned);
+        x &= row.b ^ turned;
+        y &= row.a ^ row.b ^ turned;
+        z &= row.a ^ turned;
     }
     LetterSets { x, y, z }
 }
 
 // The earliest string of one letter that has a syndrome, for a record of which n, r and the generators' rows are given.
 // The fewer qubits are behind the letter, the earlier is the string.
-pub fn lone_letter(n: usize, r: usize, g: [Pauli; ROW_ROOM], syndrome: u32) -> Found
+pub fn lone_letter(n: usize, r: usize, g: [Pauli; ROW_ROOM], syndrome: u32) -> Option<FoundMasks>
     ensures { result ≡ found_as (lone_letter (with_generators n r g) syndrome) }
 {
     let fitting = candidates(r, g, syndrome);
-    let mut qubit = at_most(QUBIT_ROOM, n);
-    'search: loop {
-        while qubit > 0 {
-            qubit -= 1;
-            let bit = 1u32 << qubit;
-            if (fitting.x >> qubit) % 2 == 1 {
-                break 'search Found::At { a: bit, b: 0 };
-            }
-            if (fitting.y >> qubit) % 2 == 1 {
-                break 'search Found::At { a: bit, b: bit };
-            }
-            if (fitting.z >> qubit) % 2 == 1 {
-                break 'search Found::At { a: 0, b: bit };
-            }
+    for qubit in (0..n.min(QUBIT_ROOM)).rev() {
+        let bit = 1u32 << qubit;
+        if (fitting.x >> qubit) % 2 == 1 {
+            return Some(FoundMasks { a: bit, b: 0 });
         }
-        break Found::Nothing;
+        if (fitting.y >> qubit) % 2 == 1 {
+            return Some(FoundMasks { a: bit, b: bit });
+        }
+        if (fitting.z >> qubit) % 2 == 1 {
+            return Some(FoundMasks { a: 0, b: bit });
+        }
     }
+    None
 }

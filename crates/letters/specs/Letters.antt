@@ -1,13 +1,10 @@
 -- Letters and signs: their bits and phases, and the bytes that they are written as.
-use Rattle.std.specs.Prelude.{[], ◌∷◌, ℕ, zero, suc}
-use Rattle.std.proofs.Math.Option.{Option, none, some}
+use Rattle.std.specs.Prelude.{Option, [], ◌∷◌, ℕ, zero, suc}
 use Prim.Native.Char.{code}
 use Rattle.letters.specs.declared.Letter.{Letter}
 use Rattle.letters.specs.declared.Letter.TheVariants.{I, X, Y, Z}
 use Rattle.letters.specs.declared.Sign.{Sign}
 use Rattle.letters.specs.declared.Sign.TheVariants.{Plus, Minus}
-use Rattle.letters.specs.declared.LetterRead.{LetterRead}
-use Rattle.letters.specs.declared.SignRead.{SignRead}
 use Rattle.letters.specs.Lists.{read_byte}
 
 -- RULES, "Letters and rows": the letter of a qubit, by its bits in the X mask and in the Z mask.
@@ -57,12 +54,3 @@ sign_byte Minus = code "-"
 
 unfoldable pub read_sign : ℕ → Option Sign
 read_sign = read_byte sign_byte (Plus ∷ Minus ∷ [])
-
--- What a byte was read as, where it was read as one.
-abbrev pub letter_in : LetterRead → Option Letter
-letter_in (LetterRead.Got l) = some l
-letter_in LetterRead.NotALetter = none
-
-abbrev pub sign_in : SignRead → Option Sign
-sign_in (SignRead.Got s) = some s
-sign_in SignRead.NotASign = none

@@ -1,3 +1,4 @@
 pub mod Lists
 pub mod Letters
+pub mod Options
 pub mod Definitions

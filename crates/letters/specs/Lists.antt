@@ -1,16 +1,15 @@
 -- Searches through a list, each of which stops at the first element that settles it, and the bytes of texts.
-use Rattle.std.specs.Prelude.{Bool, true, false, ℕ, eqb}
+use Rattle.std.specs.Prelude.{Option, Some, None, Bool, true, false, ℕ, eqb}
 use Rattle.std.proofs.Math.Bool.{Bool-discrete}
 use mathlib.Core.List.{List, [], ◌∷◌, filter}
-use Rattle.std.proofs.Math.Option.{Option, none, some}
 use Prim.Native.Char.{code}
 use Prim.Native.String.{String, [] as ε, ◌∷◌ as ◌▸◌}
 
 module _ {A : Type 0} where
   -- the first element that passes the test
   unfoldable pub first_of : (A → Bool) → List A → Option A
-  first_of test [] = none
-  first_of test (x ∷ xs) = elim (test x) [ true ↦ some x | false ↦ first_of test xs ]
+  first_of test [] = None
+  first_of test (x ∷ xs) = elim (test x) [ true ↦ Some x | false ↦ first_of test xs ]
 
   -- some element passes the test
   unfoldable pub any_of : (A → Bool) → List A → Bool

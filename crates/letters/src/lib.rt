@@ -3,23 +3,16 @@
 
 ghost use Rattle.std.specs.Prelude.{◌≡◌, ◌%◌};
 ghost use Rattle.letters.specs.Letters.{letter_at, x_bit, z_bit, struck_letter};
-ghost use Rattle.letters.specs.Letters.{letter_byte, read_letter, letter_in};
-ghost use Rattle.letters.specs.Letters.{sign_phase, sign_byte, read_sign, sign_in};
+ghost use Rattle.letters.specs.Letters.{letter_byte, read_letter};
+ghost use Rattle.letters.specs.Letters.{sign_phase, sign_byte, read_sign};
 
 // A letter of a qubit.
-#[derive(Clone, Copy)]
+#[derive(Clone, Copy, PartialEq, Eq)]
 pub enum Letter {
     I,
     X,
     Y,
     Z,
-}
-
-// What a byte is read as.
-#[derive(Clone, Copy)]
-pub enum LetterRead {
-    Got(Letter),
-    NotALetter,
 }
 
 impl Letter {
@@ -69,15 +62,16 @@ impl Letter {
         }
     }
 
-    pub fn read(c: u8) -> LetterRead
-        ensures { letter_in result ≡ read_letter c }
+    // The letter that a byte is, where it is one.
+    pub fn read(c: u8) -> Option<Letter>
+        ensures { result ≡ read_letter c }
     {
         match c {
-            b'I' => LetterRead::Got(Letter::I),
-            b'X' => LetterRead::Got(Letter::X),
-            b'Y' => LetterRead::Got(Letter::Y),
-            b'Z' => LetterRead::Got(Letter::Z),
-            _ => LetterRead::NotALetter,
+            b'I' => Some(Letter::I),
+            b'X' => Some(Letter::X),
+            b'Y' => Some(Letter::Y),
+            b'Z' => Some(Letter::Z),
+            _ => None,
         }
     }
 
@@ -94,16 +88,10 @@ impl Letter {
 }
 
 // The sign of a row.
-#[derive(Clone, Copy)]
+#[derive(Clone, Copy, PartialEq, Eq)]
 pub enum Sign {
     Plus,
     Minus,
-}
-
-#[derive(Clone, Copy)]
-pub enum SignRead {
-    Got(Sign),
-    NotASign,
 }
 
 impl Sign {
@@ -117,13 +105,14 @@ impl Sign {
         }
     }
 
-    pub fn read(c: u8) -> SignRead
-        ensures { sign_in result ≡ read_sign c }
+    // The sign that a byte is, where it is one.
+    pub fn read(c: u8) -> Option<Sign>
+        ensures { result ≡ read_sign c }
     {
         match c {
-            b'+' => SignRead::Got(Sign::Plus),
-            b'-' => SignRead::Got(Sign::Minus),
-            _ => SignRead::NotASign,
+            b'+' => Some(Sign::Plus),
+            b'-' => Some(Sign::Minus),
+            _ => None,
         }
     }
 

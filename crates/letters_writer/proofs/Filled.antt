@@ -4,7 +4,6 @@ use mathlib.Core.Path.{◌≡◌, refl, ap, sym, ◌∙◌}
 use Prim.Native.Nat.{ℕ, ◌+◌, ◌≤◌, ◌<◌}
 use native.Mathlib.Omega.{arith}
 use lib.ListN.{length, take, drop, set, get_or, get_or-map, drop_of_length-le}
-use lib.ListN.{length-append, length-drop}
 use lib.Seq.{take_all, length-take-le}
 use Rattle.letters.specs.declared.Letter.TheVariants.{I}
 use Rattle.pauli.specs.declared.Pauli.{Pauli}
@@ -12,7 +11,7 @@ use Rattle.pauli.specs.Letters.{letter_text, letter_on, letters_of}
 use Rattle.letters.specs.Letters.{letter_byte}
 use Rattle.pauli.proofs.Letters.{letters-at}
 use Rattle.sheet.specs.Text.{laid}
-use Rattle.sheet.proofs.Laid.{length_taken, byte-laid}
+use Rattle.sheet.proofs.Laid.{byte-laid}
 use Rattle.sheet.proofs.Lengths.{length-letter_text}
 
 letter_at : (n place : ℕ) (P : Pauli) → place < n
@@ -28,12 +27,6 @@ module _ (P : Pauli) (buffer : List ℕ) where
   pub filled-nothing : buffer ≡ filled_to 0 P buffer
   unfolding filled_to laid
   filled-nothing = refl
-
-  pub length-filled : (place : ℕ) → place ≤ length buffer → length (filled_to place P buffer) ≡ length buffer
-  unfolding filled_to
-  length-filled place h =
-      let count = length-letter_text (length buffer) P in
-      length_taken (letter_text (length buffer) P) buffer (omega (arith, count)) place (omega (arith, count))
 
   pub filled_more : (place : ℕ) → place < length buffer
       → set (filled_to place P buffer) place (letter_byte (letter_on place P)) ≡ filled_to (place + 1) P buffer
@@ -54,23 +47,10 @@ module _ (P : Pauli) (buffer : List ℕ) where
       ∙ append-nil text
 
 -- The first n bytes of a buffer were lent, and came back filled.
-module _ (n : ℕ) (P : Pauli) (buffer part : List ℕ) (room : n ≤ length buffer)
-    (filled : part ≡ letter_text (length (take n buffer)) P) where
-  pub front-filled : part ++ drop n buffer ≡ laid (letter_text n P) buffer
-  unfolding laid
-  front-filled =
-      ap (λ (t : List ℕ). t ++ drop n buffer)
-      (filled ∙ ap (λ (m : ℕ). letter_text m P) (length-take-le n buffer room))
-      ∙ ap (λ (m : ℕ). letter_text n P ++ drop m buffer) (sym (length-letter_text n P))
-
-  pub length-front-filled : length (part ++ drop n buffer) ≡ length buffer
-  length-front-filled =
-      let count = length-letter_text (length (take n buffer)) P in
-      omega (
-        arith,
-        length-append part (drop n buffer),
-        ap length filled,
-        count,
-        length-take-le n buffer room,
-        length-drop n buffer,
-      )
+pub front-filled : (n : ℕ) (P : Pauli) (buffer part : List ℕ) → n ≤ length buffer
+    → part ≡ letter_text (length (take n buffer)) P → part ++ drop n buffer ≡ laid (letter_text n P) buffer
+unfolding laid
+front-filled n P buffer part room filled =
+    ap (λ (t : List ℕ). t ++ drop n buffer)
+    (filled ∙ ap (λ (m : ℕ). letter_text m P) (length-take-le n buffer room))
+    ∙ ap (λ (m : ℕ). letter_text n P ++ drop m buffer) (sym (length-letter_text n P))

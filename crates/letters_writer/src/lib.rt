@@ -10,9 +10,7 @@ use pauli::Pauli;
 pub fn fill_letters(p: Pauli, out: &mut [u8])
     ensures { out.new ≡ letter_text (length out.old) p }
 {
-    let mut place: usize = 0;
-    while place < out.len() {
-        out[place] = p.letter_on(place).byte();
-        place += 1;
+    for (place, byte) in out.iter_mut().enumerate() {
+        *byte = p.letter_on(place).byte();
     }
 }

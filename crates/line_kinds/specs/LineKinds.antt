@@ -1,6 +1,6 @@
 -- Which kind of line stands at a place.
+use Rattle.std.specs.Prelude.{Option, Some, None}
 use Rattle.std.specs.Prelude.{cond, List, [], ◌∷◌, ℕ, eqb, get_or}
-use Rattle.std.proofs.Math.Option.{Option, none, some}
 use Prim.Native.Char.{code}
 use Rattle.letters.specs.Lists.{read_byte}
 use Rattle.line_kinds.specs.declared.LineKind.{LineKind}
@@ -23,8 +23,8 @@ abbrev pub kind_key : LineKind → List ℕ
 kind_key kind = kind_byte kind ∷ code "=" ∷ []
 
 abbrev pub or_other : Option LineKind → LineKind
-or_other none = Other
-or_other (some kind) = kind
+or_other None = Other
+or_other (Some kind) = kind
 
 -- The kind that has this byte as its key.
 abbrev pub kinds : List LineKind

@@ -10,7 +10,7 @@ ghost use Rattle.line_kinds.specs.LineKinds.{line_kind};
 use refusals::Family;
 
 // The kinds of lines, each told by its key.
-#[derive(Clone, Copy)]
+#[derive(Clone, Copy, PartialEq, Eq)]
 pub enum LineKind {
     Qubits,
     Distance,
@@ -26,13 +26,10 @@ pub enum LineKind {
 pub fn line_kind(s: &[u8]) -> LineKind
     ensures { result ≡ line_kind s.now }
 {
-    if s.len() < 2 {
+    let [key, b'=', ..] = s else {
         return LineKind::Other;
-    }
-    if s[1] != b'=' {
-        return LineKind::Other;
-    }
-    match s[0] {
+    };
+    match *key {
         b'n' => LineKind::Qubits,
         b'd' => LineKind::Distance,
         b'g' => LineKind::Generator,
@@ -48,25 +45,10 @@ pub fn line_kind(s: &[u8]) -> LineKind
 pub fn begins_row(s: &[u8], family: Family) -> bool
     ensures { result ≡ begins (bytes (row_key family)) s.now }
 {
-    let kind = line_kind(s);
-    match family {
-        Family::Generator => {
-            let LineKind::Generator = kind else {
-                return false;
-            };
-            true
-        }
-        Family::LogicalX => {
-            let LineKind::LogicalX = kind else {
-                return false;
-            };
-            true
-        }
-        Family::LogicalZ => {
-            let LineKind::LogicalZ = kind else {
-                return false;
-            };
-            true
-        }
-    }
+    let kind = match family {
+        Family::Generator => LineKind::Generator,
+        Family::LogicalX => LineKind::LogicalX,
+        Family::LogicalZ => LineKind::LogicalZ,
+    };
+    line_kind(s) == kind
 }

@@ -1,7 +1,8 @@
 -- The form of a line, as the code tests it: its key, and its value with a line feed behind it.
+use Rattle.std.specs.Prelude.{Option, Some, None}
+use Rattle.std.proofs.lemmas.Option.{none-some}
 use mathlib.Core.Bool.{Bool, true, false, cond}
 use mathlib.Core.List.{List, [], ◌∷◌}
-use mathlib.Core.Option.{Option, none, some, none-ne-some}
 use mathlib.Core.Path.{◌≡◌, refl, ap, sym, ◌∙◌}
 use Prim.Native.Nat.{ℕ, suc, ◌+◌, ◌-◌, ◌<◌, ◌≤◌}
 use native.Mathlib.Omega.{arith}
@@ -26,7 +27,7 @@ part_of at m s = let places : m + at - at ≡ m = omega arith in ap (λ k. take 
 -- ---- the value of the bytes from a place on
 
 module _ {A : Type 0} (from m : ℕ) (read : List ℕ → Option A) (s : List ℕ) where
-  pub value_none : eqb (get_or s (m + from) 0) line_feed ≡ false → value_from from m read s ≡ none
+  pub value_none : eqb (get_or s (m + from) 0) line_feed ≡ false → value_from from m read s ≡ None
   unfolding value_from
   value_none e = rw e
 
@@ -40,27 +41,27 @@ module _ {A : Type 0} (from m : ℕ) (read : List ℕ → Option A) (s : List �
   unfolding line_feed
   feed-within e = nonzero-within s (m + from) (omega (arith, eqb-true (get_or s (m + from) 0) 10 e))
 
-  pub value-within : {a : A} → value_from from m read s ≡ some a → m + from < length s
+  pub value-within : {a : A} → value_from from m read s ≡ Some a → m + from < length s
   value-within {a} e = by-feed (eqb (get_or s (m + from) 0) line_feed) refl
     where
       by-feed : (b : Bool) → eqb (get_or s (m + from) 0) line_feed ≡ b → m + from < length s
       by-feed true f = feed-within f
-      by-feed false f = absurd (none-ne-some a (sym (value_none f) ∙ e))
+      by-feed false f = absurd (none-some a (sym (value_none f) ∙ e))
 
 -- A value of no more bytes than may be read, and of more.
 module _ {A : Type 0} (most from m : ℕ) (read : List ℕ → Option A) (s : List ℕ) where
   pub value-few : m ≤ most → value_from from m (up_to most read) s ≡ value_from from m read s
   unfolding value_from
   value-few h =
-      ap (λ o. cond (eqb (get_or s (m + from) 0) line_feed) o none)
+      ap (λ o. cond (eqb (get_or s (m + from) 0) line_feed) o None)
       (few_bytes most read (take m (drop from s)) (omega (arith, length-take m (drop from s))))
 
-  pub value-many : most < m → value_from from m (up_to most read) s ≡ none
+  pub value-many : most < m → value_from from m (up_to most read) s ≡ None
   unfolding value_from
   value-many h = by-feed (eqb (get_or s (m + from) 0) line_feed) refl
     where
       by-feed : (b : Bool) → eqb (get_or s (m + from) 0) line_feed ≡ b
-          → cond b (up_to most read (take m (drop from s))) none ≡ none
+          → cond b (up_to most read (take m (drop from s))) None ≡ None
       by-feed true e =
           many-bytes most read (take m (drop from s))
           (omega (arith, length-take m (drop from s), length-drop from s, feed-within from m read s e))
@@ -81,7 +82,7 @@ module _ {A : Type 0} (m : ℕ) (read : List ℕ → Option A) (refusal : Refusa
       three = omega arith
 
       chosen : (b : Bool) (o : Option A) (rest : List ℕ)
-          → cond b (got_or refusal o rest) (stop refusal) ≡ got_or refusal (cond b o none) rest
+          → cond b (got_or refusal o rest) (stop refusal) ≡ got_or refusal (cond b o None) rest
       chosen true o rest = refl
       chosen false o rest = refl
 
@@ -93,11 +94,11 @@ module _ {A : Type 0} (m : ℕ) (read : List ℕ → Option A) (refusal : Refusa
           rw (two, three, eq-eqb c c refl, eq-eqb d d refl)
           (chosen (eqb (get_or s m 0) 10) (read (take m s)) (drop (m + 1) s))
 
-  pub line-no-value : value_from 2 m read s ≡ none → line_of (key_of s) m read refusal s ≡ stop refusal
+  pub line-no-value : value_from 2 m read s ≡ None → line_of (key_of s) m read refusal s ≡ stop refusal
   unfolding got_or
   line-no-value e = line-by-value ∙ ap (λ o. got_or refusal o (drop (m + 3) s)) e
 
-  pub line-value : {a : A} → value_from 2 m read s ≡ some a → line_of (key_of s) m read refusal s
+  pub line-value : {a : A} → value_from 2 m read s ≡ Some a → line_of (key_of s) m read refusal s
       ≡ got a (drop (m + 3) s)
   unfolding got_or
   line-value e = line-by-value ∙ ap (λ o. got_or refusal o (drop (m + 3) s)) e

@@ -2,16 +2,17 @@
 // check reads the rows in loops of its own, which call nothing that takes the record.
 #![tactic(auto)]
 
+ghost use Rattle.std.specs.Result.{result_err};
 ghost use Rattle.std.specs.Prelude.{◌≡◌, ◌≤◌};
 ghost use Rattle.code_record.specs.Record.{most_qubits, qubit_fault};
-ghost use Rattle.refusals.specs.Refusals.{checked_refusal, ◌then◌};
+ghost use Rattle.refusals.specs.Refusals.{◌then◌};
 ghost use Rattle.refusals.specs.declared.Refusal.TheVariants.{LogicalAnticommutes};
 ghost use Rattle.admission.specs.Logicals.{family_at, detected_fault, pairing_fault};
 ghost use Rattle.logical_pairs.specs.FaultAt.{fault_at};
 
-use code_record::{Code, MOST_QUBITS, pair_count};
+use code_record::{Code, check_qubits, pair_count};
 use logical_pairs::first_unpaired;
-use refusals::{Checked, Family, Refusal};
+use refusals::{Family, Refusal};
 
 // The family of the logical at a place, which counts from 0: the x rows come first.
 fn family_at(pairs: usize, place: usize) -> Family
@@ -29,50 +30,41 @@ fn first_detected(code: Code) -> usize
     ensures { fault_at LogicalAnticommutes code result ≡ detected_fault code }
 {
     let pairs = pair_count(code.n, code.r);
-    let mut place: usize = 0;
-    while place < 2 * pairs {
+    for place in 0..2 * pairs {
         let p = if place < pairs {
             code.x[place]
         } else {
             code.z[place - pairs]
         };
-        let mut row: usize = 0;
-        while row < code.r {
+        for row in 0..code.r {
             if !p.commutes(code.g[row]) {
                 return place;
             }
-            row += 1;
         }
-        place += 1;
     }
-    place
+    2 * pairs
 }
 
 // The checks of the logicals: 15 where no sheet has so many qubits, since their lines are counted; then 9 over all
 // logicals, then 10. The other limits are not asked for.
-pub fn check_logicals(code: Code) -> Checked
-    ensures { checked_refusal result ≡ (qubit_fault code.n then detected_fault code then pairing_fault code) }
+pub fn check_logicals(code: Code) -> Result<(), Refusal>
+    ensures { result_err result ≡ (qubit_fault code.n then detected_fault code then pairing_fault code) }
 {
-    if code.n < 2 {
-        return Checked::Refused(Refusal::RecordLimits);
-    }
-    if MOST_QUBITS < code.n {
-        return Checked::Refused(Refusal::RecordLimits);
-    }
+    check_qubits(code.n)?;
     let pairs = pair_count(code.n, code.r);
     let detected = first_detected(code);
     if detected < 2 * pairs {
-        return Checked::Refused(Refusal::LogicalAnticommutes(
+        return Err(Refusal::LogicalAnticommutes(
             code.generators_at() + code.r + detected,
             family_at(pairs, detected),
         ));
     }
     let unpaired = first_unpaired(code);
     if unpaired < 2 * pairs {
-        return Checked::Refused(Refusal::LogicalPairing(
+        return Err(Refusal::LogicalPairing(
             code.generators_at() + code.r + unpaired,
             family_at(pairs, unpaired),
         ));
     }
-    Checked::Passed
+    Ok(())
 }

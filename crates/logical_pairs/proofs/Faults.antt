@@ -1,9 +1,9 @@
 -- A check of the logicals one by one: what it finds from a place on is what it finds with the logical there, or else
 -- from the next place on. Check 10 goes that way.
+use Rattle.std.specs.Prelude.{Option, Some, None}
 use mathlib.Core.Bool.{Bool, true, false}
 use mathlib.Core.List.{List, []}
 use mathlib.Core.Logic.{inl}
-use mathlib.Core.Option.{Option, none, some}
 use mathlib.Core.Path.{◌≡◌, refl, ap, ap₂, sym, ◌∙◌}
 use Prim.Native.Nat.{ℕ, ◌+◌, ◌*◌, ◌<◌, ◌≤◌}
 use native.Mathlib.Omega.{arith}
@@ -28,14 +28,14 @@ use Rattle.logical_pairs.proofs.LogicalPlaces.{Known, Logical, logicals-length, 
 
 module _ (refusal : ℕ → Family → Refusal) {code : Code} {pairs xs : ℕ} (k : Known code pairs xs) (place : ℕ) where
   pub fault-inside : place < 2 * xs
-      → some (refusal (logicals_at code + place) (family_at pairs place)) ≡ fault_at refusal code place
+      → Some (refusal (logicals_at code + place) (family_at pairs place)) ≡ fault_at refusal code place
   unfolding fault_at refuse_if
   fault-inside inside =
       let short : place < length (logicals code) = omega (arith, logicals-length k) in
       ap₂ (λ t (k : ℕ). refuse_if t (refusal (logicals_at code + place) (family_at k place)))
       (sym (lt-ltb place (length (logicals code)) short)) k.counted
 
-  pub fault-behind : 2 * xs ≤ place → none ≡ fault_at refusal code place
+  pub fault-behind : 2 * xs ≤ place → None ≡ fault_at refusal code place
   unfolding fault_at refuse_if
   fault-behind behind =
       let long : length (logicals code) ≤ place = omega (arith, logicals-length k) in
@@ -67,7 +67,7 @@ module _ (check : List Pauli → ℕ → Pauli → Option Refusal) (code : Code)
       ∙ sym (fault-at check (logicals code) (2 * xs) place (logicals_at code) inside
       (omega (arith, logicals-length k)))
 
-  pub from_end : 2 * xs ≤ place → none ≡ From
+  pub from_end : 2 * xs ≤ place → None ≡ From
   from_end end = sym (fault-end check (logicals code) (2 * xs) place (logicals_at code) (inl end))
 
 -- ---- 10

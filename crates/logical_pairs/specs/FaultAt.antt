@@ -1,6 +1,5 @@
 -- The fault of a check of the logicals, by the place of the first logical at fault.
-use Rattle.std.proofs.Math.Option.{Option}
-use Rattle.std.specs.Prelude.{ℕ, ◌+◌, ltb, length}
+use Rattle.std.specs.Prelude.{Option, ℕ, ◌+◌, ltb, length}
 use Rattle.code_record.specs.declared.Code.{Code}
 use Rattle.code_record.specs.Record.{logicals_at, logical_count}
 use Rattle.refusals.specs.declared.Family.{Family}

@@ -1,5 +1,6 @@
 -- The search by these words finds the earliest logical error: the first words of a string sum to its syndrome, and the
 -- second words to what the canonical generators leave of it, which is 0 for members of the group alone.
+use Rattle.std.specs.Prelude.{Ok}
 use mathlib.Core.Bool.{not, ◌&&◌}
 use mathlib.Core.List.{List}
 use mathlib.Core.Path.{◌≡◌, refl, ap, ap₂, ◌∙◌}
@@ -19,7 +20,6 @@ use Rattle.pauli.proofs.Undetected.{mask-undetected}
 use Rattle.code_record.specs.declared.Code.{Code}
 use Rattle.code_record.specs.Record.{generators, on_qubits}
 use Rattle.code_record.proofs.Limits.{limits}
-use Rattle.refusals.specs.declared.Checked.{Checked}
 use Rattle.stabilizer.specs.Canonical.{remainder_word, canonical_generators}
 use Rattle.stabilizer.specs.Group.{in_group_up_to_phase}
 use Rattle.stabilizer.proofs.All.{all-of}
@@ -54,7 +54,7 @@ logical-words-are-summed c rows few s count =
 
 -- ---- a code whose generators pass
 
-module _ (c : Code) (passed : (elimination c).answer ≡ Checked.Passed) where
+module _ (c : Code) (passed : (elimination c).answer ≡ (Ok tt)) where
   few : c.n ≤ qubit_room
   few = omega (arith, (limits c (passed-within c (fault-told c refl passed))).qubits.1)
 

@@ -1,4 +1,5 @@
 -- What is stated of the words of logical errors.
+use Rattle.std.specs.Prelude.{Ok}
 use Rattle.std.specs.Prelude.{true, List, ◌≡◌, ℕ, ◌≤◌, length}
 use Rattle.letters.specs.declared.Letter.{Letter}
 use Rattle.letters.specs.Lists.{all_of}
@@ -7,7 +8,6 @@ use Rattle.pauli.specs.Letters.{of_letters}
 use Rattle.pauli.specs.Syndrome.{syndrome_mask}
 use Rattle.code_record.specs.declared.Code.{Code}
 use Rattle.code_record.specs.Record.{generators, on_qubits}
-use Rattle.refusals.specs.declared.Checked.{Checked}
 use Rattle.stabilizer.specs.Canonical.{ReducedEchelon, remainder_word, canonical_generators}
 use Rattle.reduced_rows.specs.declared.ReducedRows.{ReducedRows}
 use Rattle.reduced_rows.specs.Rows.{rows_in}
@@ -44,4 +44,4 @@ pub record WordsFindLogicalErrors (c : Code) : Type 0 where
   pub call : (v : ℕ) → earliest_by (logical_words c (elimination c).reduced) v 0 0 ≡ found_as (logical_error_up_to c v)
 
 abbrev pub LogicalErrorsAreFound : Type 0
-LogicalErrorsAreFound = (c : Code) → (elimination c).answer ≡ Checked.Passed → WordsFindLogicalErrors c
+LogicalErrorsAreFound = (c : Code) → (elimination c).answer ≡ (Ok tt) → WordsFindLogicalErrors c

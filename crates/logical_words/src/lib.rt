@@ -2,8 +2,7 @@
 // the canonical generators leave of it.
 #![tactic(auto)]
 
-ghost use Rattle.std.specs.Prelude.{◌≡◌, ℕ, ◌<◌, min, get_or};
-ghost use Rattle.code_record.specs.Record.{row_room};
+ghost use Rattle.std.specs.Prelude.{◌≡◌, ℕ, ◌<◌, get_or};
 ghost use Rattle.reduced_rows.specs.Rows.{rows_in};
 ghost use Rattle.logical_words.specs.Words.{mask_word, rows_at, logical_words};
 
@@ -21,29 +20,15 @@ fn mask_word(p: Pauli) -> u64
     p.a as u64 + 4294967296 * (p.b as u64)
 }
 
-// How many of `count` rows stand in an array: all its places where there are more.
-fn row_count(count: usize) -> usize
-    ensures { result ≡ min count row_room }
-{
-    if count < ROW_ROOM {
-        return count;
-    }
-    ROW_ROOM
-}
-
 // For each column the sum of the rows that have their first one there: of one row at most, where they are in reduced
 // echelon form. The columns are the 64 bits of a word; the last place is that of rows with no one.
 fn rows_by_pivot(rows: ReducedRows) -> [u64; 65]
     ensures { (column : ℕ) → column < 65 → get_or result column 0 ≡ rows_at (rows_in rows) column }
 {
-    let count = row_count(rows.count);
     let mut sums = [0; 65];
-    let mut place: usize = 0;
-    while place < count {
-        let row = rows.rows[place];
-        let column = pivot(32, row);
-        sums[column] = sums[column] ^ mask_word(row);
-        place += 1;
+    for row in &rows.rows[..rows.count.min(ROW_ROOM)] {
+        let column = pivot(32, *row);
+        sums[column] ^= mask_word(*row);
     }
     sums
 }
@@ -57,16 +42,15 @@ pub fn logical_words(code: Code, rows: ReducedRows) -> LetterWords
 {
     let mut words = syndrome_words(code);
     let sums = rows_by_pivot(rows);
-    let mut qubit = words.qubits;
-    let mut at: usize = 0;
-    while qubit > 0 {
-        qubit -= 1;
+    let qubits = words.qubits;
+    for right in 0..qubits {
+        let qubit = qubits - 1 - right;
         let x = (1u64 << qubit) ^ sums[qubit];
         let z = (4294967296u64 << qubit) ^ sums[qubit + 32];
+        let at = 3 * right;
         words.second[at] = x;
         words.second[at + 1] = x ^ z;
         words.second[at + 2] = z;
-        at += 3;
     }
     words
 }

@@ -1,11 +1,10 @@
 -- An error on at most t qubits is corrected by the call by value, `CorrectedByValue`: its syndrome as a mask has the
 -- bits of its syndrome, and the correction for these is that of the third guarantee.
+use Rattle.std.specs.Prelude.{None}
 use mathlib.Core.Bool.{Bool}
 use mathlib.Core.List.{List}
-use mathlib.Core.Option.{none}
 use mathlib.Core.Path.{◌≡◌, ap, sym, subst, ◌∙◌}
 use Prim.Native.Nat.{ℕ, ◌^◌, ◌<◌}
-use lib.ListN.{length}
 use Rattle.pauli.specs.declared.Pauli.{Pauli}
 use Rattle.pauli.specs.Syndrome.{syndrome, mask_of_bits, syndrome_mask}
 use Rattle.pauli.proofs.Undetected.{syndrome-mask-lt}
@@ -17,7 +16,6 @@ use Rattle.admission.specs.Admission.{read_sheet}
 use Rattle.admission.proofs.Admitted.{admitted-as, admitted-lawful}
 use Rattle.decoder.specs.Correction.{correction}
 use Rattle.decoder.specs.EndToEnd.{Correctable}
-use Rattle.decoder.specs.Statements.{IsCorrected}
 use Rattle.decoder.proofs.Bits.{syndromes-have-r-bits}
 use Rattle.decoder.proofs.Guarantee.{errors-are-corrected}
 use Rattle.mask_decoding.specs.Masks.{bits_of_mask, mask_answer}
@@ -52,8 +50,8 @@ corrected-by-value s E h =
       letters = e.letters;
       found = e.found;
       answered = sym (no-fault (c s E h) _ within (below s E h))
-          ∙ ap (λ bits. mask_answer none (correction (c s E h) bits)) (same_bits s E h)
-          ∙ ap (mask_answer none) e.found;
+          ∙ ap (λ bits. mask_answer None (correction (c s E h) bits)) (same_bits s E h)
+          ∙ ap (mask_answer None) e.found;
       light = e.light;
       in_group = e.in_group;
     }

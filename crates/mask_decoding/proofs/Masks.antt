@@ -1,7 +1,7 @@
 -- Masks and bits tell each other, and so the call's answer is the correction for the bits of its mask.
-use mathlib.Core.Bool.{Bool, true, false, cond, false≢true}
+use Rattle.std.specs.Prelude.{Option, Some, None, Ok, Err}
+use mathlib.Core.Bool.{Bool, true, false, cond}
 use mathlib.Core.List.{List, [], ◌∷◌}
-use mathlib.Core.Option.{Option, none, some}
 use mathlib.Core.Path.{◌≡◌, refl, ap, ap₂, sym, ◌∙◌}
 use Prim.Native.Nat.{ℕ, zero, suc, ◌+◌, ◌*◌, ◌/◌, ◌%◌, ◌^◌, ◌≤◌, ◌<◌}
 use native.Mathlib.Decide.{dec_lt}
@@ -13,7 +13,6 @@ use lib.ListN.{length}
 use lib.Pow.{pow_pos}
 use Rattle.letters.specs.declared.Letter.{Letter}
 use Rattle.pauli.specs.declared.Pauli.{Pauli}
-use Rattle.pauli.specs.Product.{identity}
 use Rattle.pauli.specs.Syndrome.{mask_of_bits}
 use Rattle.pauli.proofs.Masks.{digit}
 use Rattle.refusals.specs.declared.Refusal.{Refusal}
@@ -24,10 +23,8 @@ use Rattle.code_record.proofs.Limits.{limits}
 use Rattle.sheet.proofs.Lengths.{length-generators}
 use Rattle.sheet.proofs.WrittenText.{refuse_if-true, refuse_if-false, limits-broken, limits-kept}
 use Rattle.decoder.specs.Correction.{correction}
-use Rattle.corrections.specs.declared.Correction.{Correction}
 use Rattle.corrections.specs.Corrections.{correction_of, correction_for}
 use Rattle.corrections.proofs.ByValue.{corrections-by-value}
-use Rattle.mask_decoding.specs.declared.MaskDecoded.{MaskDecoded}
 use Rattle.mask_decoding.specs.Masks.{bits_of_mask, mask_fault, mask_answer, decode_mask}
 use Rattle.mask_decoding.specs.Statements.{MasksTellBits}
 
@@ -79,40 +76,25 @@ module _ (mask r : ℕ) where
 
 -- ---- the call
 
-is_found : Correction → Bool
-is_found (Correction.Found P) = true
-is_found Correction.None = false
-
-pauli_in : Correction → Pauli
-pauli_in (Correction.Found P) = P
-pauli_in Correction.None = identity
-
 -- How the answer is made of what the search found.
-none-answered : (found : Option (List Letter)) → Correction.None ≡ correction_of found
-    → MaskDecoded.None ≡ mask_answer none found
-unfolding correction_of mask_answer is_found
-none-answered none e = refl
-none-answered (some s) e = absurd (false≢true (ap is_found e))
-
-found-answered : (P : Pauli) (found : Option (List Letter)) → Correction.Found P ≡ correction_of found
-    → MaskDecoded.Correction P ≡ mask_answer none found
-unfolding correction_of mask_answer is_found pauli_in
-found-answered P none e = absurd (false≢true (sym (ap is_found e)))
-found-answered P (some s) e = ap MaskDecoded.Correction (ap pauli_in e)
+answered : (found : Option (List Letter)) {p : Option Pauli} → p ≡ correction_of found → Ok p ≡ mask_answer None found
+unfolding correction_of mask_answer
+answered None e = ap (λ (p : Option Pauli). Ok p) e
+answered (Some s) e = ap (λ (p : Option Pauli). Ok p) e
 
 module _ (c : Code) (mask : ℕ) where
-  pub outside-limits : within_limits c ≡ false → MaskDecoded.Refused Refusal.RecordLimits ≡ decode_mask c mask
+  pub outside-limits : within_limits c ≡ false → Err Refusal.RecordLimits ≡ decode_mask c mask
   unfolding decode_mask mask_answer ◌then◌
   outside-limits h = rw (limits-broken c h) refl
 
   module _ (within : within_limits c ≡ true) where
-    pub bit-above : 2 ^ c.r ≤ mask → MaskDecoded.Refused (Refusal.Syndrome 0) ≡ decode_mask c mask
+    pub bit-above : 2 ^ c.r ≤ mask → Err (Refusal.Syndrome 0) ≡ decode_mask c mask
     unfolding decode_mask mask_answer mask_fault ◌then◌
     bit-above h =
         rw (limits-kept c within, refuse_if-true (Refusal.Syndrome 0) (le-leb (2 ^ c.r) mask h)) refl
 
     module _ (below : mask < 2 ^ c.r) where
-      pub no-fault : mask_answer none (correction c (bits_of_mask c.r mask)) ≡ decode_mask c mask
+      pub no-fault : mask_answer None (correction c (bits_of_mask c.r mask)) ≡ decode_mask c mask
       unfolding decode_mask mask_fault ◌then◌
       no-fault = rw (limits-kept c within, refuse_if-false (Refusal.Syndrome 0) (lt-leb (2 ^ c.r) mask below)) refl
 
@@ -123,9 +105,5 @@ module _ (c : Code) (mask : ℕ) where
             ∙ corrections-by-value.of_bits c (bits_of_mask c.r mask) within
             (length-bits c.r mask ∙ sym (length-generators c sized (limits c within)))
 
-        pub none_found : Correction.None ≡ correction_for c mask → MaskDecoded.None ≡ decode_mask c mask
-        none_found e = none-answered _ (e ∙ by_bits) ∙ no-fault
-
-        pub one_found : (P : Pauli) → Correction.Found P ≡ correction_for c mask
-            → MaskDecoded.Correction P ≡ decode_mask c mask
-        one_found P e = found-answered P _ (e ∙ by_bits) ∙ no-fault
+        pub has_searched : {p : Option Pauli} → p ≡ correction_for c mask → Ok p ≡ decode_mask c mask
+        has_searched e = answered _ (e ∙ by_bits) ∙ no-fault

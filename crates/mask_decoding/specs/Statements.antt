@@ -1,6 +1,6 @@
 -- What is stated of the decode call by value.
-use Rattle.std.specs.Prelude.{Bool, List, [], ◌∷◌, ◌≡◌, ℕ, ◌^◌, ◌≤◌, ◌<◌, length}
-use Rattle.std.proofs.Math.Option.{some}
+use Rattle.std.specs.Prelude.{Some, Ok, Bool, List, [], ◌∷◌, ◌≡◌, ℕ, ◌^◌, ◌≤◌, ◌<◌, length}
+use Rattle.std.specs.Result.{result_err}
 use Rattle.letters.specs.declared.Letter.{Letter}
 use Rattle.pauli.specs.declared.Pauli.{Pauli}
 use Rattle.pauli.specs.Letters.{of_letters}
@@ -15,8 +15,7 @@ use Rattle.stabilizer.specs.Group.{InGroupUpToPhase}
 use Rattle.admission.specs.Admission.{read_sheet}
 use Rattle.decoder.specs.Correction.{correction}
 use Rattle.decoder.specs.EndToEnd.{Correctable}
-use Rattle.mask_decoding.specs.declared.MaskDecoded.{MaskDecoded}
-use Rattle.mask_decoding.specs.Masks.{bits_of_mask, decode_mask, mask_refusal}
+use Rattle.mask_decoding.specs.Masks.{bits_of_mask, decode_mask}
 
 -- RULES, "Calls and buffers": a syndrome of r bits and a mask below 2^r tell each other.
 pub record MasksTellBits : Type 0 where
@@ -27,8 +26,8 @@ pub record MasksTellBits : Type 0 where
 -- weighs no more than E, and times E it is in the group, phase aside.
 pub record CorrectsByValue (c : Code) (E : Pauli) : Type 0 where
   pub letters : List Letter
-  pub found : correction c (syndrome (generators c) E) ≡ some letters
-  pub answered : decode_mask c (syndrome_mask (generators c) E) ≡ MaskDecoded.Correction (of_letters letters)
+  pub found : correction c (syndrome (generators c) E) ≡ Some letters
+  pub answered : decode_mask c (syndrome_mask (generators c) E) ≡ Ok (Some (of_letters letters))
   pub light : weight_of letters ≤ weight E
   pub in_group : InGroupUpToPhase (generators c) (product (of_letters letters) E)
 
@@ -39,5 +38,5 @@ CorrectedByValue = (s : List ℕ) (E : Pauli) → Correctable s E → CorrectsBy
 -- RULES, "Calls and buffers": the numbers with which the call refuses.
 abbrev pub MaskRefusalNumbers : Type 0
 MaskRefusalNumbers =
-    (c : Code) (mask : ℕ) (refusal : Refusal) → mask_refusal (decode_mask c mask) ≡ some refusal
+    (c : Code) (mask : ℕ) (refusal : Refusal) → result_err (decode_mask c mask) ≡ Some refusal
     → Among (15 ∷ 16 ∷ []) refusal

@@ -1,6 +1,6 @@
 -- Membership with its sign, from what the canonical generators leave of the row + with the given masks.
+use Rattle.std.specs.Prelude.{Some, None, Ok, Err}
 use mathlib.Core.Bool.{Bool, true, false, cond}
-use mathlib.Core.Option.{none, some}
 use mathlib.Core.Path.{◌≡◌, refl, ap, ap₂, sym, ◌∙◌}
 use Rattle.pauli.specs.declared.Pauli.{Pauli}
 use Rattle.letters.specs.declared.Sign.TheVariants.{Plus, Minus}
@@ -18,36 +18,35 @@ use Rattle.reduced_rows.specs.declared.Kind.TheVariants.{Independent, PlusIdenti
 use Rattle.reduced_rows.specs.RowKinds.{kind_of}
 use Rattle.reduced_rows.specs.Rows.{rows_in, reduced_of}
 use Rattle.reduced_rows.proofs.Rows.{rows_of}
-use Rattle.refusals.specs.declared.Checked.{Checked}
 use Rattle.elimination.specs.declared.Elimination.{Elimination}
 use Rattle.elimination.specs.Answers.{elimination}
 use Rattle.elimination.proofs.Passed.{fault-told, rows_told, passed-independent}
-use Rattle.membership.specs.declared.Membership.{Membership}
 use Rattle.membership.specs.Answers.{kind_member, member_answer, membership}
 
-kind-member : (Q : Pauli) → kind_member (kind_of Q) ≡ member_answer none (reduced_sign Q)
+kind-member : (Q : Pauli) → Ok (kind_member (kind_of Q)) ≡ member_answer None (reduced_sign Q)
 unfolding kind_of reduced_sign member_answer
 kind-member Q = by (same_masks Q identity) (same_pauli minus_identity Q)
   where
-    by : (none? minus? : Bool) → kind_member (cond none? (cond minus? MinusIdentity PlusIdentity) Independent)
-        ≡ member_answer none (cond none? (some (cond minus? Minus Plus)) none)
+    by : (nothing? minus? : Bool)
+        → Ok (kind_member (cond nothing? (cond minus? MinusIdentity PlusIdentity) Independent))
+        ≡ member_answer None (cond nothing? (Some (cond minus? Minus Plus)) None)
     by true true = refl
     by true false = refl
     by false minus? = refl
 
 module _ (c : Code) (P : Pauli) {e : Elimination} (known : e ≡ elimination c) where
-  pub member-refused : {refusal : Refusal} → e.answer ≡ Checked.Refused refusal
-      → Membership.Refused refusal ≡ membership c P
+  pub member-refused : {refusal : Refusal} → e.answer ≡ Err refusal
+      → Err refusal ≡ membership c P
   unfolding membership member_answer
   member-refused told = ap (λ fault. member_answer fault (member_sign (generators c) P)) (fault-told c known told)
 
-  pub member-told : {R : Pauli} {kind : Kind} → e.answer ≡ Checked.Passed → R ≡ row_of Plus P.a P.b
-      → kind ≡ kind_of (reduced e.reduced.n (rows_in e.reduced) R) → kind_member kind ≡ membership c P
+  pub member-told : {R : Pauli} {kind : Kind} → e.answer ≡ Ok tt → R ≡ row_of Plus P.a P.b
+      → kind ≡ kind_of (reduced e.reduced.n (rows_in e.reduced) R) → Ok (kind_member kind) ≡ membership c P
   unfolding membership reduced_of
   member-told {R} told row found =
       let passes = fault-told c known told in
       let canonical = canonical_generators c.n (generators c) in
-      ap kind_member
+      ap (λ kind. Ok (kind_member kind))
       (found ∙ ap (λ hs. kind_of (reduced hs.n (rows_in hs) R)) (rows_told c known told)
       ∙ ap₂ (λ hs R. kind_of (reduced c.n hs R)) (rows_of c.n canonical) row)
       ∙ kind-member (reduced c.n canonical (row_of Plus P.a P.b))

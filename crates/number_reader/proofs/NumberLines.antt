@@ -1,24 +1,21 @@
 -- The lines of n and d: a number behind a key, and its range.
+use Rattle.std.specs.Prelude.{Result, Ok, Err}
 use mathlib.Core.Bool.{Bool, true, false, cond}
 use mathlib.Core.List.{List}
-use mathlib.Core.Logic.{◌⊎◌}
 use mathlib.Core.Path.{◌≡◌, refl, ap, sym, ◌∙◌}
 use Prim.Native.Nat.{ℕ, ◌<◌, ◌≤◌}
 use native.Mathlib.Omega.{arith}
 use lib.Dec.{eqb}
 use lib.ListN.{length, drop, get_or}
 use Rattle.letters.specs.Lists.{bytes}
-use Rattle.refusals.specs.declared.Lines.{Lines}
 use Rattle.refusals.specs.declared.Refusal.{Refusal}
-use Rattle.code_record.specs.Record.{most_qubits, most_distance}
-use Rattle.code_record.proofs.Limits.{bounds-between, outside-between}
+use Rattle.code_record.specs.Record.{between, most_qubits, most_distance}
 use Rattle.sheet.specs.Reader.{Parsed, Reader, got, stop, done, continue, in_range, line_of, read_number}
 use Rattle.sheet.specs.Reader.{qubit_digits, qubit_line, distance_line}
 use Rattle.sheet.specs.Text.{line_feed}
 use Rattle.sheet.proofs.Reading.{bytes-used, then-stop}
 use Rattle.line_kinds.specs.declared.LineKind.{LineKind}
 use Rattle.line_kinds.specs.LineKinds.{kind_byte, kind_key, line_kind}
-use Rattle.line_parts.specs.LineValues.{lines_of, value_or}
 use Rattle.line_parts.specs.Values.{most_digits}
 use Rattle.line_parts.proofs.LineValues.{line-of-kind, line-of-other}
 use Rattle.number_reader.specs.declared.NumberLine.{NumberLine}
@@ -28,19 +25,24 @@ use Rattle.number_reader.specs.Answers.{number_behind_key, number_answer}
 
 module _ (s : List ℕ) (used : ℕ) (within : used ≤ length s) where
   pub number_read : {p : Parsed ℕ} (m : ℕ) → p ≡ got m (drop used s)
-      → record { answer = Lines.Read used; number = m } ≡ number_answer s p
-  unfolding number_answer lines_of value_or
+      → Ok (record { used = used; number = m }) ≡ number_answer s p
+  unfolding number_answer
   number_read m e =
-      ap (λ k. record { answer = Lines.Read k; number = m }) (bytes-used s used within) ∙ ap (number_answer s) (sym e)
+      ap (λ k. Ok (record { used = k; number = m })) (bytes-used s used within) ∙ ap (number_answer s) (sym e)
+
+pub number-refused : (s : List ℕ) {p : Parsed ℕ} {refusal : Refusal} → p ≡ stop refusal
+    → Err refusal ≡ number_answer s p
+unfolding number_answer
+number-refused s e = ap (number_answer s) (sym e)
 
 module _ (low high : ℕ) (refusal : Refusal) {p : Parsed ℕ} {m : ℕ} {rest : List ℕ} (e : p ≡ got m rest) where
-  pub range-refused : (m < low) ⊎ (high < m) → continue p (in_range low high refusal) ≡ stop refusal
+  pub range-refused : between low high m ≡ false → continue p (in_range low high refusal) ≡ stop refusal
   unfolding continue in_range
-  range-refused h = rw (e, outside-between low high m h)
+  range-refused h = rw (e, h)
 
-  pub range-kept : low ≤ m → m ≤ high → continue p (in_range low high refusal) ≡ p
+  pub range-kept : between low high m ≡ true → continue p (in_range low high refusal) ≡ p
   unfolding continue in_range done
-  range-kept h k = rw (e, bounds-between low high m h k)
+  range-kept h = rw (e, h)
 
 -- ---- the lines of a kind
 
@@ -61,13 +63,12 @@ distance-line-form s = refl
 
 -- A line of another kind is refused; behind the kind's key, any key will do.
 module _ (k : LineKind) (digits at low high : ℕ) (outside : Refusal) (s : List ℕ) {definition : Parsed ℕ}
-    (form : definition ≡ number_of k digits at low high outside s) {kind : LineKind} (told : kind ≡ line_kind s)
-    {r : NumberLine} where
-  pub number-of-other : r ≡ number_answer s (stop (Refusal.Form at)) → (kind ≡ k → ⊥) → r ≡ number_answer s definition
-  number-of-other e other =
-      e ∙ ap (number_answer s) (sym (form ∙ then-stop _ (line-of-other k _ _ _ s (λ f. other (told ∙ f)))))
+    (form : definition ≡ number_of k digits at low high outside s) {kind : LineKind} (told : kind ≡ line_kind s) where
+  pub number-of-other : (kind ≡ k → ⊥) → Err (Refusal.Form at) ≡ number_answer s definition
+  number-of-other other =
+      number-refused s (form ∙ then-stop _ (line-of-other k _ _ _ s (λ f. other (told ∙ f))))
 
-  pub number-of-kind : 0 < kind_byte k → kind ≡ k → {m : ℕ} → m ≡ digits
+  pub number-of-kind : 0 < kind_byte k → kind ≡ k → {m : ℕ} → m ≡ digits → {r : Result NumberLine Refusal}
       → r ≡ number_answer s (continue (number_behind_key m at s) (in_range low high outside))
       → r ≡ number_answer s definition
   number-of-kind keyed f same e =

@@ -1,5 +1,6 @@
 -- The line of a number: its digits are those of its tenth and one more, behind the key. And what the call for one
 -- number answers.
+use Rattle.std.specs.Prelude.{Ok}
 use mathlib.Core.Bool.{Bool, true, false}
 use mathlib.Core.List.{List, [], ◌∷◌, ◌++◌}
 use mathlib.Core.Path.{◌≡◌, refl, ap, sym, ◌∙◌}
@@ -9,7 +10,6 @@ use native.Mathlib.Decide.{dec_lt}
 use native.Mathlib.Omega.{arith}
 use lib.Dec.{ltb}
 use lib.ListN.{length, length-append}
-use Rattle.refusals.specs.declared.Written.{Written}
 use Rattle.sheet.specs.Text.{line_feed, digits_of, decimal, laid}
 use Rattle.sheet.proofs.Lengths.{decimal-snoc, length-decimal-one}
 use Rattle.sheet.proofs.WrittenText.{written-whole}
@@ -54,6 +54,6 @@ module _ (key : List ℕ) (m : ℕ) where
 
   module _ (buffer : List ℕ) where
     pub number-has-room : length (number_text key m) ≤ length buffer → write_number key m buffer
-        ≡ record { answer = Written.Count (length (number_text key m)); buffer = laid (number_text key m) buffer }
+        ≡ record { answer = Ok (length (number_text key m)); buffer = laid (number_text key m) buffer }
     unfolding write_number
     number-has-room = written-whole _ _ refl

@@ -1,10 +1,10 @@
 -- What is stated of a number's line that is written by itself.
+use Rattle.std.specs.Prelude.{Some}
+use Rattle.std.specs.Result.{result_err}
 use Rattle.std.specs.Prelude.{List, [], ◌∷◌, ◌≡◌, ℕ}
-use Rattle.std.proofs.Math.Option.{some}
 use Prim.Native.String.{String}
 use Rattle.letters.specs.Lists.{bytes}
 use Rattle.refusals.specs.declared.Refusal.{Refusal}
-use Rattle.refusals.specs.Refusals.{written_refusal}
 use Rattle.sheet.specs.Statements.{RefusalLeaves, Among}
 use Rattle.sheet.specs.Text.{line, decimal}
 use Rattle.number_writer.specs.Lines.{number_text, write_number}
@@ -16,10 +16,10 @@ NumberLineIsOfItsKey = (key : String) (m : ℕ) → number_text (bytes key) m �
 -- RULES, "Calls and buffers": a refusal leaves the buffer as it was.
 abbrev pub NumberRefusalsLeave : Type 0
 NumberRefusalsLeave =
-    (key : List ℕ) (m : ℕ) (buffer : List ℕ) → RefusalLeaves written_refusal buffer (write_number key m buffer)
+    (key : List ℕ) (m : ℕ) (buffer : List ℕ) → RefusalLeaves result_err buffer (write_number key m buffer)
 
 -- RULES, "Calls and buffers": the number with which the call refuses.
 abbrev pub NumberRefusalNumbers : Type 0
 NumberRefusalNumbers =
     (key : List ℕ) (m : ℕ) (buffer : List ℕ) (refusal : Refusal)
-    → written_refusal (write_number key m buffer).answer ≡ some refusal → Among (17 ∷ []) refusal
+    → result_err (write_number key m buffer).answer ≡ Some refusal → Among (17 ∷ []) refusal

@@ -5,7 +5,7 @@ ghost use Rattle.std.specs.Prelude.{◌≡◌, ◌≤◌, length};
 ghost use Rattle.sheet.specs.Text.{laid, decimal};
 ghost use Rattle.number_writer.specs.Lines.{number_text, write_number};
 
-use refusals::{Refusal, Written};
+use refusals::{Refusal, bytes_written};
 
 // How many digits a number has.
 pub fn digit_count(m: usize) -> usize
@@ -38,7 +38,7 @@ fn number_line(out: &mut [u8], key: &[u8], m: usize) -> usize
     ensures value { result ≡ length (number_text key.now m) }
     ensures out_after { out.new ≡ laid (number_text key.now m) out.old }
 {
-    let mut end = text_writer::write_text(key, out).count();
+    let mut end = bytes_written(text_writer::write_text(key, out));
     end += digits(&mut out[end..], m);
     out[end] = b'\n';
     end + 1
@@ -46,15 +46,12 @@ fn number_line(out: &mut [u8], key: &[u8], m: usize) -> usize
 
 // The line of one number by itself, into an output buffer: 17 where the buffer is shorter than the line, then the
 // line's bytes and their count. The key is all that stands before the digits.
-pub fn write_number(key: &[u8], m: usize, out: &mut [u8]) -> Written
+pub fn write_number(key: &[u8], m: usize, out: &mut [u8]) -> Result<usize, Refusal>
     ensures value { result ≡ (write_number key.now m out.old).answer }
     ensures out_after { out.new ≡ (write_number key.now m out.old).buffer }
 {
-    if out.len() < key.len() {
-        return Written::Refused(Refusal::ShortBuffer);
+    if out.len().saturating_sub(key.len()) < digit_count(m) + 1 {
+        return Err(Refusal::ShortBuffer);
     }
-    if out.len() - key.len() < digit_count(m) + 1 {
-        return Written::Refused(Refusal::ShortBuffer);
-    }
-    Written::Count(number_line(out, key, m))
+    Ok(number_line(out, key, m))
 }

@@ -1,9 +1,9 @@
 -- The lines of two numbers: their length, and what the call answers.
+use Rattle.std.specs.Prelude.{Ok}
 use mathlib.Core.List.{List, ◌++◌}
 use mathlib.Core.Path.{◌≡◌, refl, ap, sym, ◌∙◌}
 use Prim.Native.Nat.{ℕ, ◌+◌, ◌≤◌}
 use lib.ListN.{length, length-append}
-use Rattle.refusals.specs.declared.Written.{Written}
 use Rattle.sheet.specs.Text.{laid}
 use Rattle.sheet.proofs.WrittenText.{written-whole}
 use Rattle.number_writer.specs.Lines.{number_text}
@@ -21,7 +21,7 @@ module _ (key : List ℕ) (m : ℕ) (key' : List ℕ) (m' : ℕ) where
   pub numbers-has-room : (buffer : List ℕ) → length (numbers_text key m key' m') ≤ length buffer
       → write_numbers key m key' m' buffer
       ≡ record {
-        answer = Written.Count (length (numbers_text key m key' m'));
+        answer = Ok (length (numbers_text key m key' m'));
         buffer = laid (numbers_text key m key' m') buffer;
       }
   unfolding write_numbers

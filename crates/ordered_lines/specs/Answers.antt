@@ -1,28 +1,12 @@
 -- What the readers of the lines in their order answer, in the terms of the sheet's definitions.
-use Rattle.std.specs.Prelude.{cond, ◌||◌, List, ◌≡◌, ℕ, ◌+◌, ◌≤◌, ltb, length, drop}
+use Rattle.std.specs.Prelude.{cond, ◌||◌, List, ◌≡◌, ℕ, ◌+◌, ltb, length, drop}
 use Rattle.pauli.specs.declared.Pauli.{Pauli}
-use Rattle.refusals.specs.declared.Lines.{Lines}
 use Rattle.refusals.specs.declared.Refusal.{Refusal}
 use Rattle.code_record.specs.declared.LinesReading.{LinesReading}
 use Rattle.code_record.specs.Record.{most_qubits, row_room, first_generator_at, filled, code_of}
-use Rattle.sheet.specs.Reader.{Parsed, Reader, SheetRead, got, stop, done, ◌and_then◌, answered}
+use Rattle.sheet.specs.Reader.{Reader, SheetRead, stop, done, ◌and_then◌, answered}
 use Rattle.sheet.specs.Reader.{generator_lines, claim_line, lines_after}
 use Rattle.rows_reader.specs.declared.Rows.{Rows}
-
--- How many bytes were read.
-abbrev pub used_in : Lines → ℕ
-used_in (Lines.Read used) = used
-used_in (Lines.Refused refusal) = 0
-
--- The answer of a reader and the value beside it, as the definitions have them.
-abbrev pub parsed : {A : Type 0} → List ℕ → Lines → A → Parsed A
-parsed s (Lines.Read used) value = got value (drop used s)
-parsed s (Lines.Refused refusal) value = stop refusal
-
--- A reader's answer and the value beside it are what the definition gives, and it used no more bytes than there are.
-pub record Reads {A : Type 0} (s : List ℕ) (answer : Lines) (value : A) (definition : Parsed A) : Type 0 where
-  pub within : used_in answer ≤ length s
-  pub parses : parsed s answer value ≡ definition
 
 -- ---- the readers of what is left from a line on
 

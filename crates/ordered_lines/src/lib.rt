@@ -9,19 +9,19 @@ ghost use Rattle.rows_reader.specs.Answers.{before, lines_at};
 ghost use Rattle.ordered_lines.specs.Answers.{rows_and_claim, ReadsAfter};
 
 use code_record::{FIRST_GENERATOR_AT, LinesReading, MOST_QUBITS};
-use refusals::{Lines, Refusal};
-use rows_reader::{Rows, RowsAnswer};
+use refusals::Refusal;
+use rows_reader::{Rows, RowsFault};
 
 // The answer for lines of rows, where the first of them is the line `at` of the sheet.
-fn lines_at(answer: RowsAnswer, at: usize) -> Lines
+fn lines_at(answer: Result<usize, RowsFault>, at: usize) -> Result<usize, Refusal>
     requires answer_bound { before answer ≤ 2 * row_room }
     requires at_bound { at ≤ first_generator_at + row_room }
     ensures { result ≡ lines_at at answer }
 {
     match answer {
-        RowsAnswer::Read { used } => Lines::Read { used },
-        RowsAnswer::OffForm(lines) => Lines::Refused(Refusal::Form(at + lines)),
-        RowsAnswer::Miscounted(lines) => Lines::Refused(Refusal::GeneratorCount(at + lines)),
+        Ok(used) => Ok(used),
+        Err(RowsFault::OffForm(lines)) => Err(Refusal::Form(at + lines)),
+        Err(RowsFault::Miscounted(lines)) => Err(Refusal::GeneratorCount(at + lines)),
     }
 }
 
@@ -40,14 +40,20 @@ fn lines_after(
     ensures { ReadsAfter s.now from generators (lines_after n d at) result }
 {
     let r = generators.count;
-    let logicals = rows_reader::logical_lines(&s[from..], n, r);
-    let read = logicals.answer;
-    let answer = lines_at(read, at);
-    let Lines::Read { used } = answer else {
-        return LinesReading::refused(answer);
+    let read = rows_reader::logical_lines(&s[from..], n, r);
+    let Ok(logicals) = read else {
+        return LinesReading::refused(lines_at(read.map(|lines| lines.used), at));
     };
     let claim_at = at + 2 * code_record::pair_count(n, r);
-    claim_reader::claim_after(s, from + used, n, d, claim_at, generators, logicals)
+    claim_reader::claim_after(
+        s,
+        from + logicals.used,
+        n,
+        d,
+        claim_at,
+        generators,
+        logicals,
+    )
 }
 
 // The lines from the byte `from` on: g, x, z and w. Where there is no such byte, and where a sheet may not have n
@@ -61,12 +67,10 @@ pub fn lines_from_g(s: &[u8], from: usize, n: usize, d: usize) -> LinesReading
     if s.len() < from {
         return LinesReading::off_form(FIRST_GENERATOR_AT);
     }
-    let generators = rows_reader::generator_lines(&s[from..], n);
-    let read = generators.answer;
-    let answer = lines_at(read, FIRST_GENERATOR_AT);
-    let Lines::Read { used } = answer else {
-        return LinesReading::refused(answer);
+    let read = rows_reader::generator_lines(&s[from..], n);
+    let Ok(generators) = read else {
+        return LinesReading::refused(lines_at(read.map(|lines| lines.used), FIRST_GENERATOR_AT));
     };
     let at = FIRST_GENERATOR_AT + generators.count;
-    lines_after(s, from + used, n, d, at, generators)
+    lines_after(s, from + generators.used, n, d, at, generators)
 }

@@ -1,13 +1,15 @@
 -- The first string of a list in order that passes a test is the first of all that meet the list's condition and pass;
 -- where none is found there is none; and those that pass are a list in order again. One walk along the list: a string
 -- that passes has the others behind it, and one that does not is passed over.
+use Rattle.letters.proofs.Options.{some-none}
+use Rattle.std.specs.Prelude.{Option, Some, None}
+use Rattle.std.proofs.lemmas.Option.{none-some, same_Some}
 use mathlib.Core.Bool.{Bool, true, false, true≢false}
 use mathlib.Core.List.Pairwise
 use mathlib.Core.List.{List, [], ◌∷◌, Mem, Pairwise, rel_of_Pairwise-cons}
 use mathlib.Core.List.{mem-cast, mem-cons_self, mem-cons_of_mem, mem_of_ne_of_mem, not-mem-nil, mem-filter}
 use mathlib.Core.Logic.Iff
 use mathlib.Core.Logic.{inl, inr, by_cases}
-use mathlib.Core.Option.{Option, none, some, some-injective, none-ne-some, some-ne-none}
 use mathlib.Core.Path.{◌≡◌, refl, ap, ap₂, sym, ◌∙◌}
 use Rattle.letters.specs.declared.Letter.{Letter}
 use Rattle.letters.specs.Lists.{first_of, passing}
@@ -18,16 +20,16 @@ use Rattle.pauli.proofs.EarlierOrder.{strings-discrete}
 
 module _ (test : List Letter → Bool) where
   found-along : {Before : StringOrder} (xs : List (List Letter)) → Pairwise Before xs → (s : List Letter)
-      → first_of test xs ≡ some s → FirstBy Before (λ t. Mem t xs) test s
+      → first_of test xs ≡ Some s → FirstBy Before (λ t. Mem t xs) test s
   unfolding first_of
-  found-along [] rise s e = absurd (none-ne-some s e)
+  found-along [] rise s e = absurd (none-some s e)
   found-along {Before} (x ∷ xs) rise s e = go (test x) refl (found-along xs (Pairwise.of_cons rise) s) e
     where
-      go : (b : Bool) → test x ≡ b → (first_of test xs ≡ some s → FirstBy Before (λ t. Mem t xs) test s)
-          → ◌≡◌ {A = Option (List Letter)} (elim b [ true ↦ some x | false ↦ first_of test xs ]) (some s)
+      go : (b : Bool) → test x ≡ b → (first_of test xs ≡ Some s → FirstBy Before (λ t. Mem t xs) test s)
+          → ◌≡◌ {A = Option (List Letter)} (elim b [ true ↦ Some x | false ↦ first_of test xs ]) (Some s)
           → FirstBy Before (λ t. Mem t (x ∷ xs)) test s
       go true p rest e =
-          let same : s ≡ x = sym (some-injective x s e) in
+          let same : s ≡ x = sym (same_Some x s e) in
           record {
             meets = mem-cast same mem-cons_self;
             passes = ap test same ∙ p;
@@ -43,15 +45,15 @@ module _ (test : List Letter → Bool) where
                 r.first t (mem_of_ne_of_mem (λ q. true≢false (sym passes ∙ ap test q ∙ p)) m) passes;
           }
 
-  missing-along : (xs : List (List Letter)) → first_of test xs ≡ none → (t : List Letter) → Mem t xs
+  missing-along : (xs : List (List Letter)) → first_of test xs ≡ None → (t : List Letter) → Mem t xs
       → test t ≡ true → ⊥
   unfolding first_of
   missing-along [] e t m passes = not-mem-nil m
   missing-along (x ∷ xs) e t m passes = go (test x) refl (λ f m'. missing-along xs f t m' passes) e
     where
-      go : (b : Bool) → test x ≡ b → (first_of test xs ≡ none → Mem t xs → ⊥)
-          → ◌≡◌ {A = Option (List Letter)} (elim b [ true ↦ some x | false ↦ first_of test xs ]) none → ⊥
-      go true p rest f = some-ne-none x f
+      go : (b : Bool) → test x ≡ b → (first_of test xs ≡ None → Mem t xs → ⊥)
+          → ◌≡◌ {A = Option (List Letter)} (elim b [ true ↦ Some x | false ↦ first_of test xs ]) None → ⊥
+      go true p rest f = some-none x f
       go false p rest f = rest f (mem_of_ne_of_mem (λ q. true≢false (sym passes ∙ ap test q ∙ p)) m)
 
 -- Two tests that agree on the list find the same.
@@ -60,7 +62,7 @@ same-along : (test other : List Letter → Bool) (xs : List (List Letter))
 unfolding first_of
 same-along test other [] same = refl
 same-along test other (x ∷ xs) same =
-    ap₂ (λ (t : Bool) (rest : Option (List Letter)). elim t [ true ↦ some x | false ↦ rest ]) (same x mem-cons_self)
+    ap₂ (λ (t : Bool) (rest : Option (List Letter)). elim t [ true ↦ Some x | false ↦ rest ]) (same x mem-cons_self)
     (same-along test other xs (λ s m. same s (mem-cons_of_mem x m)))
 
 -- ---- in a list in order
@@ -68,7 +70,7 @@ same-along test other (x ∷ xs) same =
 module _
     {Before : StringOrder} {Condition : List Letter → Type 0} (test : List Letter → Bool) (list : List (List Letter))
     (listed : Listed Before Condition list) where
-  pub first-is-earliest : (s : List Letter) → first_of test list ≡ some s → FirstBy Before Condition test s
+  pub first-is-earliest : (s : List Letter) → first_of test list ≡ Some s → FirstBy Before Condition test s
   first-is-earliest s e =
       let f = found-along test list listed.increasing s e in
       record {
@@ -77,7 +79,7 @@ module _
         first = λ t meets. f.first t ((listed.exactly t).1 meets);
       }
 
-  pub first-is-missing : first_of test list ≡ none → (t : List Letter) → Condition t → test t ≡ true → ⊥
+  pub first-is-missing : first_of test list ≡ None → (t : List Letter) → Condition t → test t ≡ true → ⊥
   first-is-missing e t meets = missing-along test list e t ((listed.exactly t).1 meets)
 
   pub passing-is-listed : Listed Before (λ s. Condition s × (test s ≡ true)) (passing test list)

@@ -1,7 +1,7 @@
 -- What is stated of letters, masks, syndromes and the order.
+use Rattle.std.specs.Prelude.{Some, None}
 use Rattle.std.specs.Prelude.{Bool, true, ◌⊎◌, ◌↔◌, ◌≡◌, ℕ, ◌^◌, ◌≤◌, ◌<◌, length}
 use mathlib.Core.List.{List, Mem, Nodup, Pairwise}
-use Rattle.std.proofs.Math.Option.{none, some}
 use Rattle.std.specs.Int.Bits.{bit_xor}
 use Rattle.pauli.specs.declared.Pauli.{Pauli}
 use Rattle.letters.specs.declared.Letter.{Letter}
@@ -72,9 +72,9 @@ pub record FirstBy
 -- where there is none; and those of the list that pass are such a list too.
 pub record Searched (Before : StringOrder) (Condition : List Letter → Type 0) (list : List (List Letter)) : Type 0
   where
-    pub found : (test : List Letter → Bool) (s : List Letter) → first_of test list ≡ some s
+    pub found : (test : List Letter → Bool) (s : List Letter) → first_of test list ≡ Some s
         → FirstBy Before Condition test s
-    pub missing : (test : List Letter → Bool) → first_of test list ≡ none
+    pub missing : (test : List Letter → Bool) → first_of test list ≡ None
         → (t : List Letter) → Condition t → test t ≡ true → ⊥
     pub filtered : (test : List Letter → Bool) → Listed Before (λ s. Condition s × (test s ≡ true)) (passing test list)
 

@@ -93,9 +93,10 @@ impl Pauli {
         ensures { result ≡ sign_of self }
     {
         if self.has_sign(Sign::Plus) {
-            return Sign::Plus;
+            Sign::Plus
+        } else {
+            Sign::Minus
         }
-        Sign::Minus
     }
 }
 

@@ -1,7 +1,8 @@
 -- The third guarantee of the calls for programs in C, from that of the calls which they make: a number tells the
 -- answer.
+use Rattle.std.specs.Prelude.{Some, Result, Ok, Err}
+use Rattle.std.proofs.lemmas.Option.{same_Some}
 use mathlib.Core.List.{List}
-use mathlib.Core.Option.{some-injective}
 use mathlib.Core.Path.{◌≡◌, refl, ap, sym, subst, ◌∙◌}
 use Prim.Native.Nat.{ℕ}
 use native.Mathlib.Omega.{arith}
@@ -17,7 +18,6 @@ use Rattle.refusals.specs.declared.Refusal.TheVariants.{LogicalAnticommutes, Log
 use Rattle.refusals.specs.declared.Refusal.TheVariants.{ClaimedAnticommutes, ClaimedInGroup, DistanceRefuted}
 use Rattle.refusals.specs.declared.Refusal.TheVariants.{RecordLimits, Syndrome, ShortBuffer}
 use Rattle.sheet.specs.Text.{untouched}
-use Rattle.admission.specs.declared.Admission.{Admission}
 use Rattle.admission.specs.declared.Reading.{Reading}
 use Rattle.admission.specs.Admission.{admitted, refused_reading, read_sheet}
 use Rattle.admission.proofs.Admitted.{admitted-as, admitted-lawful}
@@ -27,7 +27,6 @@ use Rattle.decoder.proofs.Decode.{syndrome-laid}
 use Rattle.decoder.proofs.Earliest.{correction-is-earliest}
 use Rattle.decoder.proofs.EndToEnd.{end_to_end}
 use Rattle.decoder.proofs.Guarantee.{errors-are-corrected}
-use Rattle.mask_decoding.specs.declared.MaskDecoded.{MaskDecoded}
 use Rattle.mask_decoding.proofs.Corrected.{corrected-by-value}
 use Rattle.reporting.specs.Report.{write_report}
 use Rattle.reporting.proofs.Guarantee.{guarantee-in-reports}
@@ -55,7 +54,7 @@ corrected s E struck =
     let is = errors-are-corrected s h.is_admitted E h.on_code h.light in
     let lawful = admitted-lawful s c (admitted-as s h.is_admitted) in
     let by = corrected-by-value s E h in
-    let same : by.letters ≡ is.letters = some-injective _ _ (sym by.found ∙ is.found) in
+    let same : by.letters ≡ is.letters = same_Some _ _ (sym by.found ∙ is.found) in
     record {
       letters = is.letters;
       count = ((correction-is-earliest c (syndrome (generators c) E)).found _ is.found).0.letters;
@@ -65,32 +64,32 @@ corrected s E struck =
       measured = λ buffer room. ap (in_numbers (syndrome_answer c.r)) (syndrome-laid c E lawful.limits buffer room);
       decoded = λ buffer room. ap (in_numbers (decoded_answer c.n)) (is.written buffer room);
       short = λ buffer room. ap (in_numbers (decoded_answer c.n)) (is.short buffer room);
-      by_value = ap correction_answer (by.answered ∙ ap (λ s. MaskDecoded.Correction (of_letters s)) same);
+      by_value = ap correction_answer (by.answered ∙ ap (λ s. Ok (Some (of_letters s))) same);
     }
 
 -- ---- the distance is decided
 
 -- Number 14 is that of one refusal.
-told_14 : (answer : Admission) → (admission_answer answer).number ≡ 14
-    → (at : ℕ) × (pair : ErrorPair) × (answer ≡ Admission.Refused (DistanceRefuted at pair))
-told_14 Admission.Admitted e = absurd (omega arith)
-told_14 (Admission.Refused TooLong) e = absurd (omega arith)
-told_14 (Admission.Refused (Form at)) e = absurd (omega arith)
-told_14 (Admission.Refused (QubitCount at)) e = absurd (omega arith)
-told_14 (Admission.Refused (DistanceRange at)) e = absurd (omega arith)
-told_14 (Admission.Refused (GeneratorCount at)) e = absurd (omega arith)
-told_14 (Admission.Refused (GeneratorsAnticommute at family)) e = absurd (omega arith)
-told_14 (Admission.Refused (MinusIdentity at family)) e = absurd (omega arith)
-told_14 (Admission.Refused (DependentGenerator at family)) e = absurd (omega arith)
-told_14 (Admission.Refused (LogicalAnticommutes at family)) e = absurd (omega arith)
-told_14 (Admission.Refused (LogicalPairing at family)) e = absurd (omega arith)
-told_14 (Admission.Refused (ClaimedWeight at)) e = absurd (omega arith)
-told_14 (Admission.Refused (ClaimedAnticommutes at)) e = absurd (omega arith)
-told_14 (Admission.Refused (ClaimedInGroup at)) e = absurd (omega arith)
-told_14 (Admission.Refused (DistanceRefuted at pair)) e = (at, pair, refl)
-told_14 (Admission.Refused RecordLimits) e = absurd (omega arith)
-told_14 (Admission.Refused (Syndrome at)) e = absurd (omega arith)
-told_14 (Admission.Refused ShortBuffer) e = absurd (omega arith)
+told_14 : (answer : Result Unit Refusal) → (admission_answer answer).number ≡ 14
+    → (at : ℕ) × (pair : ErrorPair) × (answer ≡ Err (DistanceRefuted at pair))
+told_14 (Ok tt) e = absurd (omega arith)
+told_14 (Err TooLong) e = absurd (omega arith)
+told_14 (Err (Form at)) e = absurd (omega arith)
+told_14 (Err (QubitCount at)) e = absurd (omega arith)
+told_14 (Err (DistanceRange at)) e = absurd (omega arith)
+told_14 (Err (GeneratorCount at)) e = absurd (omega arith)
+told_14 (Err (GeneratorsAnticommute at family)) e = absurd (omega arith)
+told_14 (Err (MinusIdentity at family)) e = absurd (omega arith)
+told_14 (Err (DependentGenerator at family)) e = absurd (omega arith)
+told_14 (Err (LogicalAnticommutes at family)) e = absurd (omega arith)
+told_14 (Err (LogicalPairing at family)) e = absurd (omega arith)
+told_14 (Err (ClaimedWeight at)) e = absurd (omega arith)
+told_14 (Err (ClaimedAnticommutes at)) e = absurd (omega arith)
+told_14 (Err (ClaimedInGroup at)) e = absurd (omega arith)
+told_14 (Err (DistanceRefuted at pair)) e = (at, pair, refl)
+told_14 (Err RecordLimits) e = absurd (omega arith)
+told_14 (Err (Syndrome at)) e = absurd (omega arith)
+told_14 (Err ShortBuffer) e = absurd (omega arith)
 
 shown : (s : List ℕ) → (read_call s).answer.number ≡ 14 → RefutedInC s
 unfolding read_call

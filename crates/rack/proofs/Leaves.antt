@@ -1,19 +1,16 @@
 -- Only a call that answers 0 has written: the refusals of the calls below leave the buffer, and so does `none`.
+use Rattle.std.specs.Prelude.{Result, Ok, Err}
+use Rattle.std.specs.Result.{result_err}
 use mathlib.Core.List.{List}
-use mathlib.Core.Option.{Option, some}
 use mathlib.Core.Path.{◌≡◌, refl}
 use Prim.Native.Nat.{ℕ}
 use Rattle.refusals.specs.declared.Refusal.{Refusal}
-use Rattle.refusals.specs.declared.Written.{Written}
-use Rattle.refusals.specs.Refusals.{written_refusal}
 use Rattle.sheet.specs.Statements.{RefusalLeaves}
 use Rattle.sheet.specs.Text.{After}
 use Rattle.sheet.proofs.Untouched.{writer-refusals-leave}
 use Rattle.stabilizer.proofs.Untouched.{canonical-refusals-leave}
 use Rattle.decoder.specs.declared.Decoded.{Decoded}
-use Rattle.decoder.specs.declared.SyndromeAnswer.{SyndromeAnswer}
-use Rattle.decoder.specs.Correction.{decode, decoded_refusal}
-use Rattle.decoder.specs.Syndrome.{syndrome_refusal}
+use Rattle.decoder.specs.Correction.{decode}
 use Rattle.decoder.proofs.Untouched.{decoder-refusals-leave}
 use Rattle.reporting.proofs.Report.{report-refusals-leave}
 use Rattle.rack_answers.specs.Answers.{written_answer, syndrome_answer, decoded_answer}
@@ -22,27 +19,27 @@ use Rattle.rack.specs.Statements.{OnlyDoneWrites, CallsLeave}
 
 module _ (buffer left : List ℕ) where
   -- A text's call.
-  of-written : (answer : Written) → RefusalLeaves written_refusal buffer (record { answer = answer; buffer = left })
+  of-written : (answer : Result ℕ Refusal) → RefusalLeaves result_err buffer (record { answer = answer; buffer = left })
       → OnlyDoneWrites buffer (in_numbers written_answer (record { answer = answer; buffer = left }))
-  unfolding in_numbers written_refusal
-  of-written (Written.Count m) leaves undone = absurd (undone refl)
-  of-written (Written.Refused refusal) leaves undone = (leaves.unchanged refusal refl, refl)
+  unfolding in_numbers
+  of-written (Ok m) leaves undone = absurd (undone refl)
+  of-written (Err refusal) leaves undone = (leaves.unchanged refusal refl, refl)
 
-  of-syndrome : (r : ℕ) (answer : SyndromeAnswer)
-      → RefusalLeaves syndrome_refusal buffer (record { answer = answer; buffer = left })
+  of-syndrome : (r : ℕ) (answer : Result Unit Refusal)
+      → RefusalLeaves result_err buffer (record { answer = answer; buffer = left })
       → OnlyDoneWrites buffer (in_numbers (syndrome_answer r) (record { answer = answer; buffer = left }))
-  unfolding in_numbers syndrome_refusal
-  of-syndrome r SyndromeAnswer.Given leaves undone = absurd (undone refl)
-  of-syndrome r (SyndromeAnswer.Refused refusal) leaves undone = (leaves.unchanged refusal refl, refl)
+  unfolding in_numbers
+  of-syndrome r (Ok tt) leaves undone = absurd (undone refl)
+  of-syndrome r (Err refusal) leaves undone = (leaves.unchanged refusal refl, refl)
 
-  of-decoded : (n : ℕ) (answer : Decoded)
-      → RefusalLeaves decoded_refusal buffer (record { answer = answer; buffer = left })
-      → (answer ≡ Decoded.None → left ≡ buffer)
+  of-decoded : (n : ℕ) (answer : Result Decoded Refusal)
+      → RefusalLeaves result_err buffer (record { answer = answer; buffer = left })
+      → (answer ≡ Ok Decoded.None → left ≡ buffer)
       → OnlyDoneWrites buffer (in_numbers (decoded_answer n) (record { answer = answer; buffer = left }))
-  unfolding in_numbers decoded_refusal
-  of-decoded n Decoded.Correction leaves missing undone = absurd (undone refl)
-  of-decoded n Decoded.None leaves missing undone = (missing refl, refl)
-  of-decoded n (Decoded.Refused refusal) leaves missing undone = (leaves.unchanged refusal refl, refl)
+  unfolding in_numbers
+  of-decoded n (Ok Decoded.Correction) leaves missing undone = absurd (undone refl)
+  of-decoded n (Ok Decoded.None) leaves missing undone = (missing refl, refl)
+  of-decoded n (Err refusal) leaves missing undone = (leaves.unchanged refusal refl, refl)
 
 pub calls-leave : CallsLeave
 unfolding sheet_call canonical_call syndrome_call decode_call report_call

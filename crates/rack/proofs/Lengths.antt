@@ -1,7 +1,8 @@
 -- A call leaves a buffer as long as it was.
+use Rattle.std.specs.Prelude.{Option, Some, None, Err}
+use Rattle.letters.specs.Options.{bind}
 use mathlib.Core.Bool.{Bool, true, false}
 use mathlib.Core.List.{List, map}
-use mathlib.Core.Option.{Option, none, some, bind}
 use mathlib.Core.Path.{◌≡◌, refl, ap, sym, ◌∙◌}
 use Prim.Native.Nat.{ℕ, ◌≤◌}
 use native.Mathlib.Omega.{arith}
@@ -31,8 +32,8 @@ module _ {A : Type 0} (refused : Refusal → A) (m : ℕ) (buffer : List ℕ) (a
     checked-length : (fault : Option Refusal)
         → length (guarded refused (fault then room_fault m buffer) buffer after).buffer ≡ length buffer
     unfolding guarded untouched ◌then◌ room_fault refuse_if
-    checked-length (some refusal) = refl
-    checked-length none = by-room (ltb (length buffer) m) refl
+    checked-length (Some refusal) = refl
+    checked-length None = by-room (ltb (length buffer) m) refl
       where
         by-room : (short : Bool) → ltb (length buffer) m ≡ short
             → length (guarded refused (refuse_if short Refusal.ShortBuffer) buffer after).buffer ≡ length buffer
@@ -61,20 +62,20 @@ length-measured c P buffer =
 then-assoc : (first second third : Option Refusal)
     → ((first then second) then third) ≡ (first then second then third)
 unfolding ◌then◌
-then-assoc none second third = refl
-then-assoc (some refusal) second third = refl
+then-assoc None second third = refl
+then-assoc (Some refusal) second third = refl
 
 -- A correction has n letters.
 length-corrected : (c : Code) (found : Option (List Bool)) (buffer : List ℕ) → c.n ≤ length buffer
     → length (corrected (bind found (correction c)) buffer).buffer ≡ length buffer
 unfolding corrected untouched bind
-length-corrected c none buffer room = refl
-length-corrected c (some bits) buffer room = by-search (correction c bits) refl
+length-corrected c None buffer room = refl
+length-corrected c (Some bits) buffer room = by-search (correction c bits) refl
   where
     by-search : (letters : Option (List Letter)) → correction c bits ≡ letters
         → length (corrected letters buffer).buffer ≡ length buffer
-    by-search none e = refl
-    by-search (some s) e =
+    by-search None e = refl
+    by-search (Some s) e =
         length-laid (map letter_byte s) buffer
         (omega (arith, length-map s letter_byte, ((correction-is-earliest c bits).found s e).0.letters))
 
@@ -83,7 +84,7 @@ pub length-decoded : (c : Code) (characters buffer : List ℕ)
 unfolding decode
 length-decoded c characters buffer =
     let after = corrected (bind (read_syndrome c.r characters) (correction c)) buffer in
-    ap (λ fault. length (guarded Decoded.Refused fault buffer after).buffer)
+    ap (λ fault. length (guarded Err fault buffer after).buffer)
     (sym (then-assoc (limits_fault c) (syndrome_fault c.r characters) (room_fault c.n buffer)))
-    ∙ checked-length Decoded.Refused c.n buffer after (length-corrected c (read_syndrome c.r characters) buffer)
+    ∙ checked-length Err c.n buffer after (length-corrected c (read_syndrome c.r characters) buffer)
     (limits_fault c then syndrome_fault c.r characters)

@@ -1,6 +1,5 @@
 -- What is stated of the calls for programs in C: what they leave in a buffer, and the third guarantee.
-use Rattle.std.specs.Prelude.{true, List, map, ◌≡◌, ℕ, ◌≤◌, ◌<◌, length}
-use Rattle.std.proofs.Math.Option.{some}
+use Rattle.std.specs.Prelude.{Some, Result, true, List, map, ◌≡◌, ℕ, ◌≤◌, ◌<◌, length}
 use Rattle.letters.specs.declared.Letter.{Letter}
 use Rattle.letters.specs.Letters.{letter_byte}
 use Rattle.pauli.specs.declared.Pauli.{Pauli}
@@ -11,7 +10,6 @@ use Rattle.pauli.specs.Syndrome.{syndrome, syndrome_mask}
 use Rattle.code_record.specs.declared.Code.{Code}
 use Rattle.code_record.specs.Record.{generators, radius, on_qubits}
 use Rattle.refusals.specs.declared.Refusal.{Refusal}
-use Rattle.refusals.specs.declared.Written.{Written}
 use Rattle.sheet.specs.Reader.{SheetRead}
 use Rattle.sheet.specs.Text.{After, laid, untouched}
 use Rattle.stabilizer.specs.Group.{InGroupUpToPhase}
@@ -55,7 +53,7 @@ pub record Struck (s : List ℕ) (E : Pauli) : Type 0 where
 pub record CorrectsInC (c : Code) (E : Pauli) : Type 0 where
   pub letters : List Letter
   pub count : length letters ≡ c.n
-  pub found : correction c (syndrome (generators c) E) ≡ some letters
+  pub found : correction c (syndrome (generators c) E) ≡ Some letters
   pub light : weight_of letters ≤ weight E
   pub in_group : InGroupUpToPhase (generators c) (product (of_letters letters) E)
   pub measured : (buffer : List ℕ) → c.r ≤ length buffer
@@ -80,7 +78,7 @@ pub record RefutedInC (s : List ℕ) : Type 0 where
 
 -- RULES, "Guarantees": the third one holds of a report, and that report is what the call answers and writes.
 pub record ReportedInC (input buffer : List ℕ) : Type 0 where
-  pub after : After Written
+  pub after : After (Result ℕ Refusal)
   pub guaranteed : GuaranteedReport input buffer after
   pub told : report_call input buffer ≡ in_numbers written_answer after
 

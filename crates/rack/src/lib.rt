@@ -14,7 +14,7 @@ use rack_answers::{Answer, CorrectionAnswer, SheetAnswer};
 pub fn reinoften_read_sheet(sheet: &[u8]) -> SheetAnswer
     ensures { result ≡ read_call sheet.now }
 {
-    SheetAnswer::of_reading(sheet_reading::read_sheet(sheet))
+    SheetAnswer::from(sheet_reading::read_sheet(sheet))
 }
 
 // The sheet of a record.
@@ -22,7 +22,7 @@ pub fn reinoften_write_sheet(code: Code, out: &mut [u8]) -> Answer
     ensures value { result ≡ (sheet_call code out.old).answer }
     ensures out_after { out.new ≡ (sheet_call code out.old).buffer }
 {
-    Answer::of_written(writer::write_sheet(code, out))
+    Answer::from(writer::write_sheet(code, out))
 }
 
 // The canonical generators of a record, a line for each.
@@ -30,7 +30,7 @@ pub fn reinoften_canonical(code: Code, out: &mut [u8]) -> Answer
     ensures value { result ≡ (canonical_call code out.old).answer }
     ensures out_after { out.new ≡ (canonical_call code out.old).buffer }
 {
-    Answer::of_written(canonical::write_canonical(code, out))
+    Answer::from(canonical::write_canonical(code, out))
 }
 
 // The syndrome of a Pauli, a character for each generator.
@@ -38,7 +38,7 @@ pub fn reinoften_syndrome(code: Code, error: Pauli, out: &mut [u8]) -> Answer
     ensures value { result ≡ (syndrome_call code error out.old).answer }
     ensures out_after { out.new ≡ (syndrome_call code error out.old).buffer }
 {
-    Answer::of_written(syndrome_writer::write_characters(code, error, out))
+    Answer::from(syndrome_writer::write_characters(code, error, out))
 }
 
 // The correction for a syndrome that is given as characters, as letters.
@@ -46,14 +46,14 @@ pub fn reinoften_decode(code: Code, syndrome: &[u8], out: &mut [u8]) -> Answer
     ensures value { result ≡ (decode_call code syndrome.now out.old).answer }
     ensures out_after { out.new ≡ (decode_call code syndrome.now out.old).buffer }
 {
-    Answer::of_letters(decoding::decode_letters(code, syndrome, out))
+    Answer::from(decoding::decode_letters(code, syndrome, out))
 }
 
 // The correction for a syndrome that is given as a mask, by value.
 pub fn reinoften_correct(code: Code, syndrome: u32) -> CorrectionAnswer
     ensures { result ≡ correct_call code syndrome }
 {
-    CorrectionAnswer::of_decoded(mask_decoding::decode_mask(code, syndrome))
+    CorrectionAnswer::from(mask_decoding::decode_mask(code, syndrome))
 }
 
 // The report of a sheet and the syndromes behind it.
@@ -61,5 +61,5 @@ pub fn reinoften_report(input: &[u8], out: &mut [u8]) -> Answer
     ensures value { result ≡ (report_call input.now out.old).answer }
     ensures out_after { out.new ≡ (report_call input.now out.old).buffer }
 {
-    Answer::of_written(report_writer::write_report(input, out))
+    Answer::from(report_writer::write_report(input, out))
 }

@@ -1,4 +1,6 @@
 -- The number of an answer tells which it is.
+use Rattle.pauli.specs.declared.Pauli.{Pauli}
+use Rattle.std.specs.Prelude.{Option, Some, None, Result, Ok, Err}
 use mathlib.Core.Path.{◌≡◌, refl}
 use Prim.Native.Nat.{ℕ, ◌≤◌}
 use native.Mathlib.Omega.{arith}
@@ -8,12 +10,8 @@ use Rattle.refusals.specs.declared.Refusal.TheVariants.{GeneratorsAnticommute, M
 use Rattle.refusals.specs.declared.Refusal.TheVariants.{LogicalAnticommutes, LogicalPairing, ClaimedWeight}
 use Rattle.refusals.specs.declared.Refusal.TheVariants.{ClaimedAnticommutes, ClaimedInGroup, DistanceRefuted}
 use Rattle.refusals.specs.declared.Refusal.TheVariants.{RecordLimits, Syndrome, ShortBuffer}
-use Rattle.refusals.specs.declared.Written.{Written}
-use Rattle.admission.specs.declared.Admission.{Admission}
 use Rattle.admission.specs.declared.Reading.{Reading}
 use Rattle.decoder.specs.declared.Decoded.{Decoded}
-use Rattle.decoder.specs.declared.SyndromeAnswer.{SyndromeAnswer}
-use Rattle.mask_decoding.specs.declared.MaskDecoded.{MaskDecoded}
 use Rattle.rack_answers.specs.Answers.{none_number, done, no_correction, refused_answer, written_answer}
 use Rattle.rack_answers.specs.Answers.{syndrome_answer, decoded_answer, no_value, correction_answer}
 use Rattle.rack_answers.specs.Answers.{admission_answer, sheet_answer}
@@ -45,41 +43,43 @@ not_done refusal e = omega (arith, in-range refusal)
 not_none : (refusal : Refusal) → (refused_answer refusal).number ≡ none_number → ⊥
 not_none refusal e = omega (arith, in-range refusal)
 
-admitted : (answer : Admission) → (admission_answer answer).number ≡ 0 → answer ≡ Admission.Admitted
-admitted Admission.Admitted e = refl
-admitted (Admission.Refused refusal) e = absurd (not_done refusal e)
+admitted : (answer : Result Unit Refusal) → (admission_answer answer).number ≡ 0 → answer ≡ Ok tt
+admitted (Ok tt) e = refl
+admitted (Err refusal) e = absurd (not_done refusal e)
 
-written : (answer : Written) → (written_answer answer).number ≡ 0 → answer ≡ Written.Count (written_answer answer).count
-written (Written.Count m) e = refl
-written (Written.Refused refusal) e = absurd (not_done refusal e)
+written : (answer : Result ℕ Refusal) → (written_answer answer).number ≡ 0 → answer ≡ Ok (written_answer answer).count
+written (Ok m) e = refl
+written (Err refusal) e = absurd (not_done refusal e)
 
-measured : (r : ℕ) (answer : SyndromeAnswer) → (syndrome_answer r answer).number ≡ 0 → answer ≡ SyndromeAnswer.Given
-measured r SyndromeAnswer.Given e = refl
-measured r (SyndromeAnswer.Refused refusal) e = absurd (not_done refusal e)
+measured : (r : ℕ) (answer : Result Unit Refusal) → (syndrome_answer r answer).number ≡ 0 → answer ≡ Ok tt
+measured r (Ok tt) e = refl
+measured r (Err refusal) e = absurd (not_done refusal e)
 
 -- ---- decoding
 
-decoded : (n : ℕ) (answer : Decoded) → (decoded_answer n answer).number ≡ 0 → answer ≡ Decoded.Correction
-decoded n Decoded.Correction e = refl
-decoded n Decoded.None e = absurd (omega arith)
-decoded n (Decoded.Refused refusal) e = absurd (not_done refusal e)
+decoded : (n : ℕ) (answer : Result Decoded Refusal) → (decoded_answer n answer).number ≡ 0
+    → answer ≡ Ok Decoded.Correction
+decoded n (Ok Decoded.Correction) e = refl
+decoded n (Ok Decoded.None) e = absurd (omega arith)
+decoded n (Err refusal) e = absurd (not_done refusal e)
 
-undecoded : (n : ℕ) (answer : Decoded) → (decoded_answer n answer).number ≡ none_number → answer ≡ Decoded.None
-undecoded n Decoded.Correction e = absurd (omega arith)
-undecoded n Decoded.None e = refl
-undecoded n (Decoded.Refused refusal) e = absurd (not_none refusal e)
+undecoded : (n : ℕ) (answer : Result Decoded Refusal) → (decoded_answer n answer).number ≡ none_number
+    → answer ≡ Ok Decoded.None
+undecoded n (Ok Decoded.Correction) e = absurd (omega arith)
+undecoded n (Ok Decoded.None) e = refl
+undecoded n (Err refusal) e = absurd (not_none refusal e)
 
-corrected : (answer : MaskDecoded) → (correction_answer answer).answer.number ≡ 0
-    → answer ≡ MaskDecoded.Correction (correction_answer answer).correction
-corrected (MaskDecoded.Correction P) e = refl
-corrected MaskDecoded.None e = absurd (omega arith)
-corrected (MaskDecoded.Refused refusal) e = absurd (not_done refusal e)
+corrected : (answer : Result (Option Pauli) Refusal) → (correction_answer answer).answer.number ≡ 0
+    → answer ≡ Ok (Some (correction_answer answer).correction)
+corrected (Ok (Some P)) e = refl
+corrected (Ok None) e = absurd (omega arith)
+corrected (Err refusal) e = absurd (not_done refusal e)
 
-uncorrected : (answer : MaskDecoded) → (correction_answer answer).answer.number ≡ none_number
-    → answer ≡ MaskDecoded.None
-uncorrected (MaskDecoded.Correction P) e = absurd (omega arith)
-uncorrected MaskDecoded.None e = refl
-uncorrected (MaskDecoded.Refused refusal) e = absurd (not_none refusal e)
+uncorrected : (answer : Result (Option Pauli) Refusal) → (correction_answer answer).answer.number ≡ none_number
+    → answer ≡ Ok None
+uncorrected (Ok (Some P)) e = absurd (omega arith)
+uncorrected (Ok None) e = refl
+uncorrected (Err refusal) e = absurd (not_none refusal e)
 
 pub numbers-tell : NumbersTell
 numbers-tell = record {

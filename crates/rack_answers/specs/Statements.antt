@@ -1,12 +1,9 @@
 -- What is stated of the answers as numbers.
-use Rattle.std.specs.Prelude.{◌≡◌, ℕ, ◌≤◌}
+use Rattle.pauli.specs.declared.Pauli.{Pauli}
+use Rattle.std.specs.Prelude.{Option, Some, None, Result, Ok, ◌≡◌, ℕ, ◌≤◌}
 use Rattle.refusals.specs.declared.Refusal.{Refusal}
-use Rattle.refusals.specs.declared.Written.{Written}
-use Rattle.admission.specs.declared.Admission.{Admission}
 use Rattle.admission.specs.declared.Reading.{Reading}
 use Rattle.decoder.specs.declared.Decoded.{Decoded}
-use Rattle.decoder.specs.declared.SyndromeAnswer.{SyndromeAnswer}
-use Rattle.mask_decoding.specs.declared.MaskDecoded.{MaskDecoded}
 use Rattle.rack_answers.specs.Answers.{none_number, refused_answer, written_answer, syndrome_answer, decoded_answer}
 use Rattle.rack_answers.specs.Answers.{correction_answer, sheet_answer}
 
@@ -15,14 +12,15 @@ use Rattle.rack_answers.specs.Answers.{correction_answer, sheet_answer}
 pub record NumbersTell : Type 0 where
   pub refusals : (refusal : Refusal)
       → (1 ≤ (refused_answer refusal).number) × ((refused_answer refusal).number ≤ 17)
-  pub admitted : (reading : Reading) → (sheet_answer reading).answer.number ≡ 0 → reading.answer ≡ Admission.Admitted
-  pub written : (answer : Written) → (written_answer answer).number ≡ 0
-      → answer ≡ Written.Count (written_answer answer).count
-  pub measured : (r : ℕ) (answer : SyndromeAnswer) → (syndrome_answer r answer).number ≡ 0
-      → answer ≡ SyndromeAnswer.Given
-  pub decoded : (n : ℕ) (answer : Decoded) → (decoded_answer n answer).number ≡ 0 → answer ≡ Decoded.Correction
-  pub undecoded : (n : ℕ) (answer : Decoded) → (decoded_answer n answer).number ≡ none_number → answer ≡ Decoded.None
-  pub corrected : (answer : MaskDecoded) → (correction_answer answer).answer.number ≡ 0
-      → answer ≡ MaskDecoded.Correction (correction_answer answer).correction
-  pub uncorrected : (answer : MaskDecoded) → (correction_answer answer).answer.number ≡ none_number
-      → answer ≡ MaskDecoded.None
+  pub admitted : (reading : Reading) → (sheet_answer reading).answer.number ≡ 0 → reading.answer ≡ Ok tt
+  pub written : (answer : Result ℕ Refusal) → (written_answer answer).number ≡ 0
+      → answer ≡ Ok (written_answer answer).count
+  pub measured : (r : ℕ) (answer : Result Unit Refusal) → (syndrome_answer r answer).number ≡ 0 → answer ≡ Ok tt
+  pub decoded : (n : ℕ) (answer : Result Decoded Refusal) → (decoded_answer n answer).number ≡ 0
+      → answer ≡ Ok Decoded.Correction
+  pub undecoded : (n : ℕ) (answer : Result Decoded Refusal) → (decoded_answer n answer).number ≡ none_number
+      → answer ≡ Ok Decoded.None
+  pub corrected : (answer : Result (Option Pauli) Refusal) → (correction_answer answer).answer.number ≡ 0
+      → answer ≡ Ok (Some (correction_answer answer).correction)
+  pub uncorrected : (answer : Result (Option Pauli) Refusal) → (correction_answer answer).answer.number ≡ none_number
+      → answer ≡ Ok None

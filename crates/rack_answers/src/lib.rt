@@ -3,17 +3,14 @@
 #![tactic(auto)]
 
 ghost use Rattle.std.specs.Prelude.{◌≡◌};
-ghost use Rattle.std.proofs.Math.Option.{none};
 ghost use Rattle.refusals.specs.Refusals.{values};
 ghost use Rattle.rack_answers.specs.Answers.{done, no_correction, family_byte, refused_answer, written_answer};
 ghost use Rattle.rack_answers.specs.Answers.{letters_answer, no_value, correction_answer, errors_in, sheet_answer};
 
-use admission::{Admission, Reading};
+use admission::Reading;
 use code_record::Code;
-use decoding::LettersDecoded;
-use mask_decoding::MaskDecoded;
 use pauli::Pauli;
-use refusals::{ErrorPair, Refusal, RowFamily, Written};
+use refusals::{ErrorPair, Family, Refusal};
 
 // The number of `none`, which is no refusal.
 pub const NONE: u32 = 255;
@@ -47,13 +44,10 @@ pub struct CorrectionAnswer {
 }
 
 // The byte of a row's key, 0 where there is no row.
-fn family_byte(family: RowFamily) -> u32
+fn family_byte(family: Option<Family>) -> u32
     ensures { result ≡ family_byte family }
 {
-    match family {
-        RowFamily::Row(kind) => kind.key() as u32,
-        RowFamily::NoRow => 0,
-    }
+    family.map_or(0, |kind| u32::from(kind.key()))
 }
 
 impl Answer {
@@ -85,33 +79,33 @@ impl Answer {
         ensures { result ≡ refused_answer refusal }
     {
         let values = refusal.values();
-        let family = values.family;
         Answer {
             number: values.number,
-            family: family_byte(family),
+            family: family_byte(values.family),
             line: values.line,
             count: 0,
         }
     }
+}
 
-    // Of a call that counts the bytes it writes.
-    pub fn of_written(answer: Written) -> Answer
-        ensures { result ≡ written_answer answer }
-    {
-        match answer {
-            Written::Count(count) => Answer::done(count),
-            Written::Refused(refusal) => Answer::refused(refusal),
-        }
+// Of a call that counts the bytes it writes.
+impl From<Result<usize, Refusal>> for Answer {
+    ghost from_gives = { λ answer result. result ≡ written_answer answer };
+
+    fn from(answer: Result<usize, Refusal>) -> Answer {
+        answer.map_or_else(Answer::refused, Answer::done)
     }
+}
 
-    // Of the decode call that counts its letters.
-    pub fn of_letters(answer: LettersDecoded) -> Answer
-        ensures { result ≡ letters_answer answer }
-    {
+// Of the decode call that counts its letters.
+impl From<Result<Option<usize>, Refusal>> for Answer {
+    ghost from_gives = { λ answer result. result ≡ letters_answer answer };
+
+    fn from(answer: Result<Option<usize>, Refusal>) -> Answer {
         match answer {
-            LettersDecoded::Count(n) => Answer::done(n),
-            LettersDecoded::None => Answer::none(),
-            LettersDecoded::Refused(refusal) => Answer::refused(refusal),
+            Ok(Some(n)) => Answer::done(n),
+            Ok(None) => Answer::none(),
+            Err(refusal) => Answer::refused(refusal),
         }
     }
 }
@@ -126,18 +120,20 @@ impl CorrectionAnswer {
             correction: Pauli::identity(),
         }
     }
+}
 
-    // Of the decode call by value.
-    pub fn of_decoded(answer: MaskDecoded) -> CorrectionAnswer
-        ensures { result ≡ correction_answer answer }
-    {
+// Of the decode call by value.
+impl From<Result<Option<Pauli>, Refusal>> for CorrectionAnswer {
+    ghost from_gives = { λ answer result. result ≡ correction_answer answer };
+
+    fn from(answer: Result<Option<Pauli>, Refusal>) -> CorrectionAnswer {
         match answer {
-            MaskDecoded::Correction(correction) => CorrectionAnswer {
+            Ok(Some(correction)) => CorrectionAnswer {
                 answer: Answer::done(0),
                 correction,
             },
-            MaskDecoded::None => CorrectionAnswer::without(Answer::none()),
-            MaskDecoded::Refused(refusal) => CorrectionAnswer::without(Answer::refused(refusal)),
+            Ok(None) => CorrectionAnswer::without(Answer::none()),
+            Err(refusal) => CorrectionAnswer::without(Answer::refused(refusal)),
         }
     }
 }
@@ -146,14 +142,14 @@ impl CorrectionAnswer {
 fn errors_of(refusal: Refusal) -> ErrorPair
     ensures { result ≡ errors_in (values refusal).errors }
 {
-    let Refusal::DistanceRefuted(_, pair) = refusal else {
-        return no_errors();
-    };
-    pair
+    match refusal {
+        Refusal::DistanceRefuted(_, pair) => pair,
+        _ => no_errors(),
+    }
 }
 
 fn no_errors() -> ErrorPair
-    ensures { result ≡ errors_in none }
+    ensures { result ≡ errors_in None }
 {
     ErrorPair {
         n: 0,
@@ -162,20 +158,20 @@ fn no_errors() -> ErrorPair
     }
 }
 
-impl SheetAnswer {
-    // Of a sheet's reading.
-    pub fn of_reading(reading: Reading) -> SheetAnswer
-        ensures { result ≡ sheet_answer reading }
-    {
+// Of a sheet's reading.
+impl From<Reading> for SheetAnswer {
+    ghost from_gives = { λ reading result. result ≡ sheet_answer reading };
+
+    fn from(reading: Reading) -> SheetAnswer {
         let code = reading.code;
         let answer = reading.answer;
         match answer {
-            Admission::Admitted => SheetAnswer {
+            Ok(()) => SheetAnswer {
                 answer: Answer::done(0),
                 errors: no_errors(),
                 code,
             },
-            Admission::Refused(refusal) => SheetAnswer {
+            Err(refusal) => SheetAnswer {
                 answer: Answer::refused(refusal),
                 errors: errors_of(refusal),
                 code,

@@ -8,7 +8,7 @@ ghost use Rattle.sheet.specs.Reader.{sheet_lines, answered, lines_reading};
 ghost use Rattle.reader.specs.Lines.{lines_from_d};
 
 use code_record::{LONGEST_INPUT, LinesReading};
-use refusals::{Lines, Refusal};
+use refusals::Refusal;
 
 // The lines from the byte `from` on: d and what follows.
 fn lines_from_d(s: &[u8], from: usize, n: usize) -> LinesReading
@@ -17,11 +17,10 @@ fn lines_from_d(s: &[u8], from: usize, n: usize) -> LinesReading
     ensures { result ≡ answered s.now (lines_from_d n (drop from s.now)) }
 {
     let distance = number_reader::distance_line(&s[from..]);
-    let answer = distance.answer;
-    let Lines::Read { used } = answer else {
-        return LinesReading::refused(answer);
+    let Ok(line) = distance else {
+        return LinesReading::refused(distance.map(|line| line.used));
     };
-    ordered_lines::lines_from_g(s, from + used, n, distance.number)
+    ordered_lines::lines_from_g(s, from + line.used, n, line.number)
 }
 
 // The lines of a sheet, in their order.
@@ -29,11 +28,10 @@ fn sheet_lines(s: &[u8]) -> LinesReading
     ensures { result ≡ answered s.now (sheet_lines s.now) }
 {
     let qubits = number_reader::qubit_line(s);
-    let answer = qubits.answer;
-    let Lines::Read { used } = answer else {
-        return LinesReading::refused(answer);
+    let Ok(line) = qubits else {
+        return LinesReading::refused(qubits.map(|line| line.used));
     };
-    lines_from_d(s, used, qubits.number)
+    lines_from_d(s, line.used, line.number)
 }
 
 // The lines of a sheet with anything behind them, as a report has them.
@@ -41,7 +39,7 @@ pub fn read_lines(s: &[u8]) -> LinesReading
     ensures { result ≡ lines_reading s.now }
 {
     if LONGEST_INPUT < s.len() {
-        return LinesReading::refused(Lines::Refused(Refusal::TooLong));
+        return LinesReading::refused(Err(Refusal::TooLong));
     }
     sheet_lines(s)
 }

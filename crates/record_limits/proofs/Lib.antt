@@ -1,4 +1,2 @@
 pub mod RowLimits
-pub mod Passing
-pub mod JoinedTests
 pub mod GeneratorLimits

@@ -2,9 +2,11 @@
 // unused ones +I, and w has sign +.
 #![tactic(auto)]
 
-ghost use Rattle.std.specs.Prelude.{◌&&◌, ◌≡◌, ◌≤◌};
+ghost use Rattle.std.specs.Prelude.{true, ◌&&◌, ◌≡◌, ◌≤◌, length, take, drop};
+ghost use Rattle.letters.specs.Lists.{all_of};
 ghost use Rattle.code_record.specs.Record.{most_qubits, most_distance, most_generators};
 ghost use Rattle.code_record.specs.Record.{between, on_qubits, is_row, is_claim, within_limits};
+ghost use Rattle.unused_rows.specs.Unused.{are_identities};
 ghost use Rattle.record_limits.specs.Generators.{generators_within};
 
 use code_record::{Code, MOST_DISTANCE, MOST_QUBITS, ROW_ROOM};
@@ -15,7 +17,7 @@ use unused_rows::are_unused;
 fn between(low: usize, high: usize, m: usize) -> bool
     ensures { result ≡ between low high m }
 {
-    low <= m && m <= high
+    (low..=high).contains(&m)
 }
 
 // Whether a Pauli has no mask bit above qubit n.
@@ -57,13 +59,11 @@ pub fn generators_within(n: usize, r: usize, g: [Pauli; ROW_ROOM]) -> bool
     if !counts_within(n, r) {
         return false;
     }
-    let mut place: usize = 0;
-    while place < r {
-        let p = g[place];
-        if !is_row(p, n) {
+    // By place: a reference to the array would copy it first.
+    for place in 0..r {
+        if !is_row(g[place], n) {
             return false;
         }
-        place += 1;
     }
     true
 }
@@ -75,44 +75,42 @@ fn numbers_within(n: usize, r: usize, d: usize) -> bool
     counts_within(n, r) && between(1, MOST_DISTANCE, d)
 }
 
-// Whether a record is within its limits. A used row that passes is put to +I in a copy of its family, so that all rows
-// of the record can then be tested at once.
+// Whether the first m rows are rows of n qubits. One that passes is put to +I, so that all rows can then be tested at
+// once. In one loop: `all` and then `fill` take longer.
+fn rows_pass(rows: &mut [Pauli], m: usize, n: usize) -> bool
+    requires count { m ≤ length rows.old }
+    requires qubits { n ≤ most_qubits }
+    ensures answer { result ≡ all_of (is_row n) (take m rows.old) }
+    ensures rest { result ≡ true → are_identities rows.new ≡ are_identities (drop m rows.old) }
+{
+    for place in 0..m {
+        if !is_row(rows[place], n) {
+            return false;
+        }
+        rows[place] = Pauli::identity();
+    }
+    true
+}
+
+// Whether a record is within its limits.
 pub fn within_limits(code: Code) -> bool
     ensures { result ≡ within_limits code }
 {
     if !numbers_within(code.n, code.r, code.d) {
         return false;
     }
-    let one = Pauli::identity();
-    let mut g = code.g;
-    let mut place: usize = 0;
-    while place < code.r {
-        let p = g[place];
-        if !is_row(p, code.n) {
-            return false;
-        }
-        g[place] = one;
-        place += 1;
-    }
     let k = code_record::pair_count(code.n, code.r);
-    let mut x = code.x;
-    let mut z = code.z;
-    place = 0;
-    while place < k {
-        let p = x[place];
-        if !is_row(p, code.n) {
-            return false;
-        }
-        x[place] = one;
-        let q = z[place];
-        if !is_row(q, code.n) {
-            return false;
-        }
-        z[place] = one;
-        place += 1;
-    }
-    if !are_unused(g, x, z) {
+    let mut g = code.g;
+    if !rows_pass(&mut g, code.r, code.n) {
         return false;
     }
-    is_claim(code.w, code.n)
+    let mut x = code.x;
+    if !rows_pass(&mut x, k, code.n) {
+        return false;
+    }
+    let mut z = code.z;
+    if !rows_pass(&mut z, k, code.n) {
+        return false;
+    }
+    are_unused(g, x, z) && is_claim(code.w, code.n)
 }

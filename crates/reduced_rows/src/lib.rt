@@ -42,13 +42,9 @@ impl ReducedRows {
     pub fn reduce(self, p: Pauli) -> Pauli
         ensures { result ≡ reduced self.n (rows_in self) p }
     {
-        let n = self.n;
-        let count = self.count;
         let mut left = p;
-        let mut place: usize = 0;
-        while place < ROW_ROOM && place < count {
-            left = cleared(n, self.rows[place], left);
-            place += 1;
+        for place in 0..self.count.min(ROW_ROOM) {
+            left = cleared(self.n, self.rows[place], left);
         }
         left
     }

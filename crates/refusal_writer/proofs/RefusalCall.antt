@@ -1,12 +1,12 @@
-use Rattle.code_record.specs.Record.{qubit_fault}
 -- What is stated of the lines of a refusal: the call is `written` with its checks, so the laws of every such call hold
 -- of it.
+use Rattle.std.specs.Prelude.{Option, Some, None}
 use mathlib.Core.List.{[], ◌∷◌}
-use mathlib.Core.Option.{Option, none, some}
 use mathlib.Core.Path.{refl, ap}
 use Rattle.letters.specs.Lists.{any_of}
 use Rattle.refusals.specs.declared.ErrorPair.{ErrorPair}
 use Rattle.refusals.specs.Refusals.{values}
+use Rattle.code_record.specs.Record.{qubit_fault}
 use Rattle.sheet.specs.Statements.{Among}
 use Rattle.sheet.specs.Text.{written}
 use Rattle.sheet.proofs.Numbers.{IfRefused, law-of-refusal, refuse_if-lawful, written-lawful}
@@ -25,8 +25,8 @@ refusal-refusals-leave refusal buffer = written-leaves _ _ buffer
 
 errors-lawful : (errors : Option ErrorPair) → IfRefused (Among (15 ∷ 17 ∷ [])) (errors_fault errors)
 unfolding errors_fault qubit_fault any_of
-errors-lawful none = IfRefused.unrefused
-errors-lawful (some pair) = refuse_if-lawful _ _ refl
+errors-lawful None = IfRefused.unrefused
+errors-lawful (Some pair) = refuse_if-lawful _ _ refl
 
 pub refusal-refusal-numbers : RefusalRefusalNumbers
 unfolding write_refusal pair_fault any_of

@@ -1,7 +1,7 @@
 -- The lines of a refusal: those of its two numbers, and of 14 those of the two errors behind them, with their length.
 -- And what the call answers where there are no errors.
+use Rattle.std.specs.Prelude.{None, Result}
 use mathlib.Core.List.{List, [], ◌∷◌, ◌++◌, append_assoc, append-nil}
-use mathlib.Core.Option.{none}
 use mathlib.Core.Path.{◌≡◌, refl, ap, ap₂, sym, ◌∙◌}
 use Prim.Native.Nat.{ℕ, ◌+◌, ◌*◌}
 use native.Mathlib.Omega.{arith}
@@ -11,7 +11,6 @@ use Rattle.refusals.specs.declared.ErrorPair.{ErrorPair}
 use Rattle.refusals.specs.declared.Refusal.{Refusal}
 use Rattle.refusals.specs.declared.Refusal.TheVariants.{DistanceRefuted}
 use Rattle.refusals.specs.declared.RefusalValues.{RefusalValues}
-use Rattle.refusals.specs.declared.Written.{Written}
 use Rattle.refusals.specs.Refusals.{values, answered_values}
 use Rattle.sheet.specs.Text.{line, decimal, digits_of, written}
 use Rattle.sheet.proofs.WrittenText.{Answers}
@@ -71,21 +70,21 @@ module _ (at : ℕ) (pair : ErrorPair) where
 
 -- ---- the other refusals
 
-module _ (refusal : Refusal) (plain : (values refusal).errors ≡ none) where
+module _ (refusal : Refusal) (plain : (values refusal).errors ≡ None) where
   plain-text : numbers (values refusal).number (values refusal).line ≡ refusal_text refusal
   unfolding refusal_text errors_text numbers_text number_text line bytes
   plain-text =
       let front = numbers (values refusal).number (values refusal).line in
       sym (append-nil front) ∙ ap (λ errors. front ++ errors_text errors) (sym plain)
 
-  plain-sound : none ≡ pair_fault refusal
+  plain-sound : None ≡ pair_fault refusal
   unfolding pair_fault errors_fault
   plain-sound = sym (ap errors_fault plain)
 
   -- What the call for the two numbers answers is what that for the refusal has to.
   pub plain-answers : (buffer : List ℕ) (v : RefusalValues) → v ≡ answered_values (values refusal)
-      → {answer : Written} {after : List ℕ}
-      → Answers none (numbers v.number v.line) buffer answer after
+      → {answer : Result ℕ Refusal} {after : List ℕ}
+      → Answers None (numbers v.number v.line) buffer answer after
       → Answers (pair_fault refusal) (refusal_text refusal) buffer answer after
   plain-answers buffer v told (answered, left) =
       let text : numbers v.number v.line ≡ refusal_text refusal =

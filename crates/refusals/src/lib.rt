@@ -1,4 +1,4 @@
-// The refusals with what each says, the families of rows that they name, and the answers that carry them.
+// The refusals with what each says, and the families of rows that they name.
 #![tactic(auto)]
 
 ghost use Rattle.std.specs.Prelude.{◌≡◌};
@@ -9,7 +9,7 @@ use pauli::Pauli;
 
 // The three kinds of rows, each with its array in the record and its key in the sheet. A refusal about a row names its
 // kind.
-#[derive(Clone, Copy)]
+#[derive(Clone, Copy, PartialEq, Eq)]
 pub enum Family {
     Generator,
     LogicalX,
@@ -105,19 +105,12 @@ impl Refusal {
     }
 }
 
-// The kind of the row that a refusal is about, where it is about one.
-#[derive(Clone, Copy)]
-pub enum RowFamily {
-    Row(Family),
-    NoRow,
-}
-
-// What a refusal says: its number, the line named, 0 for none, and the kind of its row.
+// What a refusal says: its number, the line named, 0 for none, and the kind of its row, where it is about one.
 #[derive(Clone, Copy)]
 pub struct RefusalValues {
     pub number: u32,
     pub line: usize,
-    pub family: RowFamily,
+    pub family: Option<Family>,
 }
 
 impl RefusalValues {
@@ -128,7 +121,7 @@ impl RefusalValues {
         RefusalValues {
             number,
             line,
-            family: RowFamily::NoRow,
+            family: None,
         }
     }
 
@@ -139,40 +132,14 @@ impl RefusalValues {
         RefusalValues {
             number,
             line,
-            family: RowFamily::Row(family),
+            family: Some(family),
         }
     }
 }
 
-// One or more lines of a sheet were read, and took so many bytes; or they were refused.
-#[derive(Clone, Copy)]
-pub enum Lines {
-    Read { used: usize },
-    Refused(Refusal),
-}
-
-// The answer of checks: they passed, or this is their first fault.
-#[derive(Clone, Copy)]
-pub enum Checked {
-    Passed,
-    Refused(Refusal),
-}
-
-// What a call answers that writes text into an output buffer: the count of bytes written, or a refusal.
-#[derive(Clone, Copy)]
-pub enum Written {
-    Count(usize),
-    Refused(Refusal),
-}
-
-impl Written {
-    // How many bytes were written: none where the call refused. So a caller finds where the next line begins.
-    pub fn count(self) -> usize
-        ensures { result ≡ count_of self }
-    {
-        match self {
-            Written::Count(length) => length,
-            Written::Refused(_) => 0,
-        }
-    }
+// How many bytes a call wrote, of its answer: none where it refused. So a caller finds where the next line begins.
+pub fn bytes_written(written: Result<usize, Refusal>) -> usize
+    ensures { result ≡ count_of written }
+{
+    written.unwrap_or(0)
 }

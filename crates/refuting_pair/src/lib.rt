@@ -15,10 +15,8 @@ fn without_lowest(mask: u32, count: u32) -> u32
     ensures { result ≡ without_lowest count mask }
 {
     let mut kept = mask;
-    let mut left = count;
-    while left > 0 && kept > 0 {
-        kept = kept & (kept - 1);
-        left -= 1;
+    for _ in 0..count {
+        kept &= kept.saturating_sub(1);
     }
     kept
 }
@@ -28,7 +26,7 @@ fn without_lowest(mask: u32, count: u32) -> u32
 pub fn refuting_pair(n: usize, a: u32, b: u32) -> ErrorPair
     ensures { result ≡ refuting_pair n (letters_at 32 a b) }
 {
-    let kept = without_lowest(a | b, (u32::count_ones(a | b) + 1) / 2);
+    let kept = without_lowest(a | b, (a | b).count_ones().div_ceil(2));
     ErrorPair {
         n,
         e: Pauli::signed(Sign::Plus, a ^ (a & kept), b ^ (b & kept)),

@@ -5,10 +5,12 @@ ghost use Rattle.std.specs.Prelude.{◌≡◌, ◌≤◌, length, take, IfOk};
 ghost use Rattle.reporting.specs.Report.{longest_report, report_text};
 ghost use Rattle.report.specs.Input.{IsPrefixLen};
 
+use refusals::bytes_written;
 use report_writer::write_report;
 use std::io::{self, Read};
 
-// Reads to the end of the input, or as far as the buffer goes. How many bytes were put at the buffer's start.
+// Reads to the end of the input, or as far as the buffer goes. How many bytes were put at the buffer's start. The loop
+// goes on by what each read took, so it is no `for`.
 fn read_input<R: Read>(input: &mut R, buffer: &mut [u8]) -> io::Result<usize>
     ensures { IfOk result (λ len. IsPrefixLen len buffer.new) }
 {
@@ -29,7 +31,7 @@ fn report(input: &[u8], out: &mut [u8]) -> usize
     ensures value { result ≡ length (report_text input.now) }
     ensures out_after { take result out.new ≡ report_text input.now }
 {
-    write_report(input, out).count()
+    bytes_written(write_report(input, out))
 }
 
 // Where a read fails there is no report, since the input is not known; where a write fails the report may be cut off.

@@ -1,7 +1,7 @@
 -- The report by what its parts answered: each part's text is the report's, and the part refuses with 17 alone.
+use Rattle.std.specs.Prelude.{Option, Some, None, Result, Ok, Err}
 use mathlib.Core.Bool.{Bool}
 use mathlib.Core.List.{List, [], ◌++◌}
-use mathlib.Core.Option.{Option, none, some}
 use mathlib.Core.Path.{◌≡◌, refl, ap, ap₂, sym, subst, ◌∙◌}
 use Prim.Native.Nat.{ℕ, ◌+◌, ◌^◌, ◌≤◌, ◌<◌}
 use native.Mathlib.Omega.{arith}
@@ -11,9 +11,7 @@ use Rattle.code_record.specs.declared.LinesReading.{LinesReading}
 use Rattle.code_record.specs.Record.{most_qubits, row_room, generators, limits_fault}
 use Rattle.code_record.proofs.Limits.{limits, within-later}
 use Rattle.refusals.specs.declared.ErrorPair.{ErrorPair}
-use Rattle.refusals.specs.declared.Lines.{Lines}
 use Rattle.refusals.specs.declared.Refusal.{Refusal}
-use Rattle.refusals.specs.declared.Written.{Written}
 use Rattle.refusals.specs.Refusals.{values, ◌then◌}
 use Rattle.sheet.specs.Reader.{SheetRead, Parsed, got, stop, read_lines, answered, lines_reading, behind}
 use Rattle.sheet.specs.Text.{After, written}
@@ -38,7 +36,7 @@ use Rattle.reporting.proofs.Report.{report-by-fault}
 use Rattle.reporting.proofs.Steps.{lines_from}
 use Rattle.refusal_writer.specs.RefusalLines.{errors_fault, pair_fault, write_refusal}
 use Rattle.refusal_writer.proofs.RefusalCall.{refusal-is-written}
-use Rattle.syndrome_lines.specs.declared.SyndromeLines.{SyndromeLines}
+use Rattle.syndrome_lines.specs.declared.OffForm.{OffForm}
 use Rattle.syndrome_lines.specs.SyndromeLines.{check_lines, lines_fault}
 use Rattle.syndrome_lines.proofs.InReports.{syndrome-lines-are-read}
 use Rattle.correction_lines.proofs.InReports.{correction-lines-are-reported}
@@ -50,22 +48,22 @@ use Rattle.report_writer.specs.Reports.{write_by_fault, write_checked}
 
 -- The two errors of a brief refusal are on a code's qubits, so that the call for its lines refuses with 17 alone.
 brief-written : (refusal : Refusal) → Brief refusal → (buffer : List ℕ)
-    → write_refusal refusal buffer ≡ written none (refusal_text refusal) buffer
+    → write_refusal refusal buffer ≡ written None (refusal_text refusal) buffer
 unfolding pair_fault errors_fault
 brief-written refusal brief buffer =
     refusal-is-written refusal buffer (by-errors (values refusal).errors brief.qubits)
   where
     by-errors : (errors : Option ErrorPair)
-        → ((pair : ErrorPair) → errors ≡ some pair → (2 ≤ pair.n) × (pair.n ≤ most_qubits))
-        → errors_fault errors ≡ none
-    by-errors none on = refl
-    by-errors (some pair) on = let q = on pair refl in qubits-within pair.n q.0 q.1
+        → ((pair : ErrorPair) → errors ≡ Some pair → (2 ≤ pair.n) × (pair.n ≤ most_qubits))
+        → errors_fault errors ≡ None
+    by-errors None on = refl
+    by-errors (Some pair) on = let q = on pair refl in qubits-within pair.n q.0 q.1
 
 -- ---- the lines were refused
 
 module _ (input : List ℕ) (reading : LinesReading) where
   stopped-at : (p : Parsed SheetRead) (refusal : Refusal) → reading ≡ answered input p
-      → reading.answer ≡ Lines.Refused refusal → p ≡ stop refusal
+      → reading.answer ≡ Err refusal → p ≡ stop refusal
   unfolding answered
   stopped-at (got q rest) refusal e told = absurd (let z : ◌≡◌ {A = ℕ} 0 1 = cc (ap (λ x. x.answer) e) in omega arith)
   stopped-at (stop other) refusal e told = ap stop (cc (ap (λ x. x.answer) e))
@@ -80,7 +78,7 @@ module _ (input : List ℕ) (reading : LinesReading) where
     pub left : behind input reading.answer ≡ rest
 
   got-by : (p : Parsed SheetRead) (used : ℕ) → read_lines input ≡ p → reading ≡ answered input p
-      → reading.answer ≡ Lines.Read used → behind input reading.answer ≡ behind input (lines_reading input).answer
+      → reading.answer ≡ Ok used → behind input reading.answer ≡ behind input (lines_reading input).answer
       → LinesGot
   unfolding answered
   got-by (got q rest) used lines e told same = record {
@@ -95,11 +93,11 @@ module _ (input : List ℕ) (reading : LinesReading) where
       absurd (let z : ◌≡◌ {A = ℕ} 0 1 = cc (ap (λ x. x.answer) e) in omega arith)
 
   module _ (known : reading ≡ lines_reading input) where
-    pub lines-stopped : (refusal : Refusal) → reading.answer ≡ Lines.Refused refusal → read_lines input ≡ stop refusal
+    pub lines-stopped : (refusal : Refusal) → reading.answer ≡ Err refusal → read_lines input ≡ stop refusal
     unfolding lines_reading
     lines-stopped refusal told = stopped-at (read_lines input) refusal known told
 
-    pub lines-got : (used : ℕ) → reading.answer ≡ Lines.Read used → LinesGot
+    pub lines-got : (used : ℕ) → reading.answer ≡ Ok used → LinesGot
     unfolding lines_reading
     lines-got used told =
         got-by (read_lines input) used refl known told (ap (λ x. behind input x.answer) known)
@@ -108,9 +106,9 @@ module _ (input : List ℕ) (reading : LinesReading) where
 
 module _ (input buffer : List ℕ) where
   -- A call that writes the report's text is the report's call.
-  as-report : {text : List ℕ} → report_text input ≡ text → written none text buffer ≡ write_report input buffer
+  as-report : {text : List ℕ} → report_text input ≡ text → written None text buffer ≡ write_report input buffer
   unfolding write_report
-  as-report e = ap (λ (t : List ℕ). written none t buffer) (sym e)
+  as-report e = ap (λ (t : List ℕ). written None t buffer) (sym e)
 
   pub stopped-report : (refusal : Refusal) → read_lines input ≡ stop refusal
       → write_refusal refusal buffer ≡ write_report input buffer
@@ -136,7 +134,7 @@ module _ (input buffer : List ℕ) where
         within-later own (code_fault at own) lawful.limits
         ∙ ap₂ (λ (c : Code) (m : ℕ). limits_fault c then code_fault m c) (sym g.code) (sym g.claim) ∙ sym told
 
-    pub faulty-report : (refusal : Refusal) → code_fault at own ≡ some refusal
+    pub faulty-report : (refusal : Refusal) → code_fault at own ≡ Some refusal
         → write_refusal refusal buffer ≡ write_report input buffer
     unfolding report_of_code
     faulty-report refusal fault =
@@ -144,16 +142,16 @@ module _ (input buffer : List ℕ) where
         let near = claim-few own lawful.sized within in
         brief-written refusal
         (law-of-refusal (code-brief own lawful.sized within at (omega (arith, lawful.claim))) refusal fault) buffer
-        ∙ as-report (report-by-fault input g.read g.rest g.lines (some refusal) fault)
+        ∙ as-report (report-by-fault input g.read g.rest g.lines (Some refusal) fault)
 
-    module _ (faultless : code_fault at own ≡ none) where
+    module _ (faultless : code_fault at own ≡ None) where
       report-by-lines : (p : Parsed (List (List Bool))) → lines_from own (at + 1) g.rest ≡ p
           → report_text input ≡ report_of_syndromes own p
       unfolding report_of_code
       report-by-lines p e =
-          report-by-fault input g.read g.rest g.lines none faultless ∙ ap (report_of_syndromes own) e
+          report-by-fault input g.read g.rest g.lines None faultless ∙ ap (report_of_syndromes own) e
 
-      group-passes : group_fault own ≡ none
+      group-passes : group_fault own ≡ None
       unfolding group_fault
       group-passes = sym (within-later own _ lawful.limits) ∙ generators-pass at own faultless
 
@@ -169,18 +167,18 @@ module _ (input buffer : List ℕ) where
         account-is syndromes lines =
             ap (λ (rows : ReducedRows). write_account own rows g.rest buffer) found
             ∙ account-is-of-record own group-passes g.rest buffer
-            ∙ ap (λ (corrections : List ℕ). written none (code_text own ++ corrections) buffer)
+            ∙ ap (λ (corrections : List ℕ). written None (code_text own ++ corrections) buffer)
             (correction-lines-are-reported own (at + 1) g.rest syndromes lawful.sized lawful.limits lines)
             ∙ as-report (report-by-lines (got syndromes []) lines)
 
-        by_lines : (checked : SyndromeLines) → check_lines own.r g.rest ≡ checked
+        by_lines : (checked : Result Unit OffForm) → check_lines own.r g.rest ≡ checked
             → write_by_fault own hs g.rest buffer (lines_fault (at + 1) checked) ≡ write_report input buffer
         unfolding write_by_fault lines_fault report_of_syndromes pair_fault errors_fault
-        by_lines SyndromeLines.Read e =
+        by_lines (Ok _) e =
             let told = syndrome-lines-are-read.read own (at + 1) g.rest (ap (lines_fault (at + 1)) e) in
             account-is told.0 told.1
-        by_lines (SyndromeLines.OffForm m) e =
-            refusal-is-written (Refusal.Syndrome (at + 1 + m)) buffer refl
+        by_lines (Err off) e =
+            refusal-is-written (Refusal.Syndrome (at + 1 + off.before)) buffer refl
             ∙ as-report
             (report-by-lines _
             (syndrome-lines-are-read.off_form own (at + 1) g.rest _ few-rows (ap (lines_fault (at + 1)) e)))
@@ -214,18 +212,19 @@ module _ (input buffer : List ℕ) where
 
 module _ (input buffer : List ℕ) where
   -- What it answers and leaves is the report's, and so the third guarantee holds of it.
-  pub ends_with : {part : After Written} → part ≡ write_report input buffer → {answer : Written} {after : List ℕ}
+  pub ends_with : {part : After (Result ℕ Refusal)} → part ≡ write_report input buffer
+      → {answer : Result ℕ Refusal} {after : List ℕ}
       → answer ≡ part.answer → after ≡ part.buffer
       → (answer ≡ (write_report input buffer).answer) × ((after ≡ (write_report input buffer).buffer)
       × GuaranteedReport input buffer (record { answer = answer; buffer = after }))
   ends_with e {answer} {after} told left =
-      let first = told ∙ ap (λ (x : After Written). x.answer) e in
-      let second = left ∙ ap (λ (x : After Written). x.buffer) e in (
+      let first = told ∙ ap (λ (x : After (Result ℕ Refusal)). x.answer) e in
+      let second = left ∙ ap (λ (x : After (Result ℕ Refusal)). x.buffer) e in (
         first,
         (
           second,
           subst (GuaranteedReport input buffer)
-              (sym (ap₂ (λ (a : Written) (b : List ℕ). record { answer = a; buffer = b }) first second))
+              (sym (ap₂ (λ (a : Result ℕ Refusal) (b : List ℕ). record { answer = a; buffer = b }) first second))
               (guarantee-in-reports input buffer),
         ),
       )

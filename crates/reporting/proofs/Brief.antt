@@ -1,7 +1,8 @@
 -- The refusals of a record's checks are brief, as text: they name lines of the sheet, which has few, and the errors
 -- of 14 have a letter for each qubit.
+use Rattle.std.specs.Prelude.{Some, None}
+use Rattle.std.proofs.lemmas.Option.{none-some, same_Some}
 use mathlib.Core.List.{List}
-use mathlib.Core.Option.{none, some, none-ne-some, some-injective}
 use mathlib.Core.Path.{◌≡◌, refl, ap, sym, ◌∙◌}
 use Prim.Native.Nat.{ℕ, ◌≤◌}
 use native.Mathlib.Omega.{arith}
@@ -34,16 +35,16 @@ pub record Brief (refusal : Refusal) : Type 0 where
   pub number : (values refusal).number ≤ 17
   pub line : (values refusal).line ≤ last_line
   pub errors : length (errors_text (values refusal).errors) ≤ 54
-  pub qubits : (pair : ErrorPair) → (values refusal).errors ≡ some pair → (2 ≤ pair.n) × (pair.n ≤ most_qubits)
+  pub qubits : (pair : ErrorPair) → (values refusal).errors ≡ Some pair → (2 ≤ pair.n) × (pair.n ≤ most_qubits)
 
 pub brief : (refusal : Refusal) → (values refusal).number ≤ 17 → (values refusal).line ≤ last_line
-    → (values refusal).errors ≡ none → Brief refusal
+    → (values refusal).errors ≡ None → Brief refusal
 unfolding errors_text
 brief refusal number line none-carried = record {
   number = number;
   line = line;
   errors = rw none-carried (lit≤ tt);
-  qubits = λ pair carried. absurd (none-ne-some pair (sym none-carried ∙ carried));
+  qubits = λ pair carried. absurd (none-some pair (sym none-carried ∙ carried));
 }
 
 -- ---- the checks
@@ -70,7 +71,7 @@ module _ (c : Code) (sized : Sized c) (within : Limits c) where
       line = few;
       errors = simp (length-append, length-line, length-letter_text) (omega arith);
       qubits = λ pair carried.
-          let n = ap (λ (p : ErrorPair). p.n) (some-injective _ pair carried) in omega (arith, within.qubits);
+          let n = ap (λ (p : ErrorPair). p.n) (same_Some _ pair carried) in omega (arith, within.qubits);
     }
 
     checks-brief : (refusal : Refusal) → OfChecks at c refusal → Brief refusal

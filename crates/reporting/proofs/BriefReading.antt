@@ -1,8 +1,8 @@
 -- The refusals of a reading are brief, as text: reader by reader, each refusal names a line of the sheet, and the rows
 -- between two lines are counted.
+use Rattle.std.specs.Prelude.{Option}
 use mathlib.Core.Bool.{Bool, true, false, cond, ◌||◌}
 use mathlib.Core.List.{List}
-use mathlib.Core.Option.{Option}
 use mathlib.Core.Path.{◌≡◌, refl}
 use Prim.Native.Nat.{ℕ, zero, suc, ◌+◌, ◌*◌, ◌≤◌}
 use Prim.Native.String.{String}

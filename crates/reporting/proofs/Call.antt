@@ -1,8 +1,8 @@
 -- The report's call writes the report's text where it has room, and else refuses with 17: it has no check but the room,
 -- and the longest report has room in every buffer of that length.
+use Rattle.std.specs.Prelude.{None}
 use mathlib.Core.List.{List}
 use mathlib.Core.Logic.{◌⊎◌, inl, inr}
-use mathlib.Core.Option.{none}
 use mathlib.Core.Path.{◌≡◌, refl, ap, ◌∙◌}
 use Prim.Native.Nat.{ℕ, ◌≤◌}
 use native.Mathlib.Omega.{arith}
@@ -20,8 +20,8 @@ is-reported input text e buffer = record {
   short = λ small. call ∙ written-short text buffer refl small;
 }
   where
-    call : written none (report_text input) buffer ≡ written none text buffer
-    call = ap (λ (t : List ℕ). written none t buffer) e
+    call : written None (report_text input) buffer ≡ written None text buffer
+    call = ap (λ (t : List ℕ). written None t buffer) e
 
     enough : (longest_report ≤ length buffer) ⊎ (length text ≤ length buffer) → length text ≤ length buffer
     enough (inl h) = omega (arith, report-fits input, ap length e)

@@ -1,10 +1,11 @@
 -- Every report is of one of four kinds: an input is not read, or is a sheet and bytes behind it. The sheet has a
 -- fault or is admitted; and behind an admitted sheet, any bytes are lines of syndromes and then nothing, or a line
 -- that is none.
+use Rattle.std.specs.Prelude.{Option, Some, None}
+use Rattle.std.specs.Result.{result_err}
 use mathlib.Core.Bool.{Bool}
 use mathlib.Core.List.{List, [], ◌∷◌, ◌++◌, flat_map, append-nil, append_assoc}
 use mathlib.Core.Logic.{◌⊎◌, inl, inr}
-use mathlib.Core.Option.{Option, none, some}
 use mathlib.Core.Path.{◌≡◌, refl, ap, sym, ◌∙◌}
 use Prim.Native.Nat.{ℕ, zero, suc, ◌≤◌, ◌<◌}
 use native.Mathlib.Nat.{ℕ_set}
@@ -13,7 +14,6 @@ use lib.ListN.{length, length-append}
 use Rattle.letters.specs.Lists.{any_of}
 use Rattle.code_record.specs.declared.Code.{Code}
 use Rattle.refusals.specs.declared.Refusal.{Refusal}
-use Rattle.refusals.specs.Refusals.{lines_refusal}
 use Rattle.sheet.specs.Reader.{SheetRead, Parsed, got, stop, continue, read_lines, nothing_behind, read_form}
 use Rattle.sheet.specs.Reader.{answered, lines_reading}
 use Rattle.sheet.specs.Statements.{Among}
@@ -90,9 +90,9 @@ module _ (c : Code) where
 
 unread-number : (s : List ℕ) (refusal : Refusal) → read_lines s ≡ stop refusal
     → Among (1 ∷ 2 ∷ 3 ∷ 4 ∷ 5 ∷ []) refusal
-unfolding lines_reading answered lines_refusal
+unfolding lines_reading answered
 unread-number s refusal e =
-    sheet-refusal-numbers.lines s refusal (ap (λ p. lines_refusal (answered s p).answer) e)
+    sheet-refusal-numbers.lines s refusal (ap (λ p. result_err (answered s p).answer) e)
 
 checks-number : (at : ℕ) (c : Code) (refusal : Refusal) → OfChecks at c refusal
     → Among (6 ∷ 7 ∷ 8 ∷ 9 ∷ 10 ∷ 11 ∷ 12 ∷ 13 ∷ 14 ∷ []) refusal
@@ -125,7 +125,7 @@ module _ (input : List ℕ) (q : SheetRead) (rest : List ℕ) (lines : read_line
       ap read_lines (sym (append-nil sheet)) ∙ lawful-returns q lawful [] (rw append-nil (omega arith)) in
       ap (λ (p : Parsed SheetRead). continue p nothing_behind) alone
 
-  sheet-admitted : code_fault q.claim_at c ≡ none → read_sheet sheet ≡ admitted c
+  sheet-admitted : code_fault q.claim_at c ≡ None → read_sheet sheet ≡ admitted c
   unfolding read_sheet checked reading_of
   sheet-admitted faultless = ap checked sheet-form ∙ ap (reading_of c) faultless
 
@@ -135,7 +135,7 @@ module _ (input : List ℕ) (q : SheetRead) (rest : List ℕ) (lines : read_line
   members : (split : Split c rest) → HaveBits c.r split.syndromes
   members split = member-of-all _ (λ bits. ℕ_set (length bits) c.r) split.syndromes split.counts
 
-  report-split : code_fault q.claim_at c ≡ none → (split : Split c rest)
+  report-split : code_fault q.claim_at c ≡ None → (split : Split c rest)
       → (split.rest ≡ []) ⊎ ((0 < length split.rest) × NoSyndrome c.r split.rest) → ReportOf input
   report-split faultless split (inl e) =
       let syndromes = split.syndromes in
@@ -151,12 +151,12 @@ module _ (input : List ℕ) (q : SheetRead) (rest : List ℕ) (lines : read_line
 
   report-read : (fault : Option Refusal) → code_fault q.claim_at c ≡ fault → ReportOf input
   unfolding report_of_code
-  report-read none e =
+  report-read None e =
       let split = split-lines c (length rest) rest (omega arith) in report-split e split split.ended
-  report-read (some refusal) e =
+  report-read (Some refusal) e =
       ReportOf.faulty sheet rest q refusal (input-is refl) sheet-form e
       (law-of-refusal (law-of-fault (checks-number q.claim_at c) (checks-refuse q.claim_at c)) refusal e)
-      (report-by-fault input q rest lines (some refusal) e)
+      (report-by-fault input q rest lines (Some refusal) e)
 
 pub every-report : EveryReport
 unfolding report_text report_of_lines

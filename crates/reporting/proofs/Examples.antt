@@ -1,5 +1,6 @@
 -- Reports at the edges, computed: codes that tell right from nearly right, the largest n, faults in the `s=` lines,
 -- a short buffer.
+use Rattle.std.specs.Prelude.{Ok, Err}
 use mathlib.Core.List.{List, [], ◌∷◌, ◌++◌, map, Memᴰ}
 use mathlib.Core.Path.{◌≡◌, refl}
 use Prim.Native.String.{String, ◌++◌ as ◌⧺◌}
@@ -13,7 +14,6 @@ use Rattle.letters.specs.Lists.{bytes}
 use Rattle.pauli.proofs.Table.{each}
 use Rattle.code_record.specs.declared.Code.{Code}
 use Rattle.refusals.specs.declared.Refusal.{Refusal}
-use Rattle.refusals.specs.declared.Written.{Written}
 use Rattle.code_record.specs.Record.{code_of}
 use Rattle.sheet.specs.Edges.{nine_qubits, eight_qubits, four_qubits, sheet_c, sheet_k}
 use Rattle.sheet.specs.Text.{line_feed, untouched}
@@ -100,12 +100,12 @@ report24 = refl
 
 report-written :
     write_report (bytes "n=1\n") (bytes "abcdefghijkl")
-    ≡ record { answer = Written.Count 9; buffer = bytes "r=3\nat=1\njkl" }
+    ≡ record { answer = Ok 9; buffer = bytes "r=3\nat=1\njkl" }
 unfolding definitions
 report-written = refl
 
 report-short :
     write_report (bytes "n=1\n") (bytes "abcdefgh")
-    ≡ untouched (Written.Refused Refusal.ShortBuffer) (bytes "abcdefgh")
+    ≡ untouched (Err Refusal.ShortBuffer) (bytes "abcdefgh")
 unfolding definitions
 report-short = refl

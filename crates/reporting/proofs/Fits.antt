@@ -1,8 +1,8 @@
 -- The longest report has room: an input has at most 1,024 `s=` lines, of 4 bytes at least, and each has a line of
 -- at most 27 bytes; what stands before them, or a refusal in their place, is brief.
+use Rattle.std.specs.Prelude.{Option, Some, None}
 use mathlib.Core.Bool.{Bool, true, false}
 use mathlib.Core.List.{List, [], ◌∷◌, ◌++◌, flat_map}
-use mathlib.Core.Option.{Option, none, some}
 use mathlib.Core.Path.{◌≡◌, refl, ap}
 use Prim.Native.Nat.{ℕ, zero, suc, ◌+◌, ◌*◌, ◌/◌, ◌%◌, ◌≤◌}
 use native.Mathlib.Nat.{mul-le-mul}
@@ -67,13 +67,13 @@ refusal-fits refusal h =
 
 -- ---- the length of a `c=` line
 
-pub length-correction : (c : Code) (bits : List Bool) (s : List Letter) → correction c bits ≡ some s
+pub length-correction : (c : Code) (bits : List Bool) (s : List Letter) → correction c bits ≡ Some s
     → length (correction_line c bits) ≡ c.n + 3
 unfolding correction_line correction_value bytes
 length-correction c bits s e =
     rw (length-line, e) (omega (arith, length-map s letter_byte, ((correction-is-earliest c bits).found s e).0.letters))
 
-pub length-no-correction : (c : Code) (bits : List Bool) → correction c bits ≡ none
+pub length-no-correction : (c : Code) (bits : List Bool) → correction c bits ≡ None
     → length (correction_line c bits) ≡ 7
 unfolding correction_line correction_value bytes
 length-no-correction c bits e = rw (length-line, e)
@@ -112,8 +112,8 @@ module _ (c : Code) (sized : Sized c) (within : Limits c) where
   correction-few bits = go (correction c bits) refl
     where
       go : (o : Option (List Letter)) → correction c bits ≡ o → length (correction_line c bits) ≤ 27
-      go none e = omega (arith, length-no-correction c bits e)
-      go (some s) e = omega (arith, length-correction c bits s e, within.qubits)
+      go None e = omega (arith, length-no-correction c bits e)
+      go (Some s) e = omega (arith, length-correction c bits s e, within.qubits)
 
   corrections-few : (syndromes : List (List Bool))
       → length (flat_map (correction_line c) syndromes) ≤ 27 * length syndromes

@@ -1,9 +1,10 @@
 -- The third guarantee as a report shows it. The `c=` lines of errors have the letters of their corrections, since a
 -- report answers each syndrome as the decoder does; and a refuted distance has the four lines of the refusal, whose two
 -- errors are known from the decoder's guarantee to refute it and from admission to be from the earliest logical error.
+use Rattle.std.specs.Prelude.{Some, Result, Ok}
+use Rattle.std.proofs.lemmas.Option.{same_Some}
 use mathlib.Core.Bool.{Bool}
 use mathlib.Core.List.{List, ◌++◌, map, append_assoc}
-use mathlib.Core.Option.{some, some-injective}
 use mathlib.Core.Path.{◌≡◌, refl, ap, sym, subst, ◌∙◌}
 use Prim.Native.Nat.{ℕ, ◌≤◌}
 use lib.ListN.{length}
@@ -12,13 +13,11 @@ use Rattle.pauli.specs.Syndrome.{syndrome}
 use Rattle.code_record.specs.declared.Code.{Code}
 use Rattle.refusals.specs.declared.ErrorPair.{ErrorPair}
 use Rattle.refusals.specs.declared.Refusal.{Refusal}
-use Rattle.refusals.specs.declared.Written.{Written}
 use Rattle.code_record.specs.Record.{generators, longest_input}
 use Rattle.refusals.specs.Refusals.{values, ◌then◌}
 use Rattle.sheet.specs.Reader.{SheetRead}
 use Rattle.sheet.specs.Text.{line_feed, line, digits_of, decimal, After}
 use Rattle.stabilizer.proofs.All.{all-every, all-mapped}
-use Rattle.admission.specs.declared.Admission.{Admission}
 use Rattle.admission.specs.Admission.{AdmissibleButForDistance, code_fault, read_sheet}
 use Rattle.admission.specs.Distance.{distance_fault}
 use Rattle.admission.specs.Statements.{ShowsEarliest}
@@ -38,7 +37,7 @@ use Rattle.reporting.proofs.Report.{syndromes-are-reported, lines-before, report
 
 -- ---- corrections
 
-module _ (s : List ℕ) (h : (read_sheet s).answer ≡ Admission.Admitted) where
+module _ (s : List ℕ) (h : (read_sheet s).answer ≡ Ok tt) where
   abbrev own : Code
   own = (read_sheet s).code
 
@@ -75,10 +74,10 @@ refutation-text q pair qubits = rw (fourteen, qubits) (simp append_assoc)
 module _
     (s rest : List ℕ) (q : SheetRead) (refusal : Refusal) (lawful : AdmissibleButForDistance s q)
     (refused : RefusedForDistance s refusal) (few : length (s ++ rest) ≤ longest_input) where
-  fault : distance_fault q.claim_at q.code ≡ some refusal
+  fault : distance_fault q.claim_at q.code ≡ Some refusal
   fault = refusal-is-distance-fault s q lawful refusal refused.0
 
-  code-fault : code_fault q.claim_at q.code ≡ some refusal
+  code-fault : code_fault q.claim_at q.code ≡ Some refusal
   unfolding code_fault ◌then◌
   code-fault = ap (λ o. o then distance_fault q.claim_at q.code) lawful.checks ∙ fault
 
@@ -91,7 +90,7 @@ module _
   -- Both speak of the pair that the refusal carries.
   same-pair : shows.pair ≡ earliest.pair
   same-pair =
-      some-injective shows.pair earliest.pair
+      same_Some shows.pair earliest.pair
       (sym shows.carried ∙ ap (λ r. (values r).errors) earliest.told)
 
   refuted-reported : (buffer : List ℕ) → RefutesInReport q buffer (write_report (s ++ rest) buffer)
@@ -111,10 +110,10 @@ module _
 
 -- What holds of this input holds of one that is equal to it.
 module _ (input whole buffer : List ℕ) (e : input ≡ whole) where
-  abbrev left : After Written
+  abbrev left : After (Result ℕ Refusal)
   left = write_report whole buffer
 
-  as-input : (P : After Written → Type 0) → P left → P (write_report input buffer)
+  as-input : (P : After (Result ℕ Refusal) → Type 0) → P left → P (write_report input buffer)
   as-input P = subst (λ (t : List ℕ). P (write_report t buffer)) (sym e)
 
 pub guarantee-in-reports : GuaranteeInReports

@@ -1,9 +1,9 @@
 -- The report of a sheet that was read, with what stands behind it: the refusal of its checks; or the account of the
 -- code and its corrections; or 16 at the first line that is no syndrome's. Each is one clause of the definition,
 -- and the lines behind w go by the steps of Steps.
+use Rattle.std.specs.Prelude.{Option, None}
 use mathlib.Core.Bool.{Bool}
 use mathlib.Core.List.{List, [], ◌++◌, flat_map, append-nil}
-use mathlib.Core.Option.{Option, none}
 use mathlib.Core.Path.{◌≡◌, refl, ap, ap₂, sym, ◌∙◌}
 use Prim.Native.Nat.{ℕ, ◌+◌, ◌≤◌, ◌<◌}
 use lib.ListN.{length}
@@ -63,11 +63,11 @@ module _ (input : List ℕ) (q : SheetRead) (rest : List ℕ) (lines : read_line
   report-by-fault fault e = ap report_of_lines lines ∙ ap (report_of_code q rest) e
 
   module _
-      (faultless : code_fault q.claim_at own ≡ none) (syndromes : List (List Bool)) (all : HaveRBits own syndromes)
+      (faultless : code_fault q.claim_at own ≡ None) (syndromes : List (List Bool)) (all : HaveRBits own syndromes)
     where
       report-by-lines : report_text input ≡ report_of_syndromes own (lines_from own first rest)
       unfolding report_of_code
-      report-by-lines = report-by-fault none faultless
+      report-by-lines = report-by-fault None faultless
 
       pub report-answered : rest ≡ syndromes_text syndromes
           → report_text input ≡ code_text own ++ flat_map (correction_line own) syndromes

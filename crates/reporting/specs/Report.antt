@@ -1,7 +1,7 @@
 -- The report as a function from bytes to bytes.
+use Rattle.std.specs.Prelude.{Option, Some, None, Result}
 use Rattle.std.specs.Prelude.{Bool, ℕ, zero, suc, ◌+◌, length}
 use mathlib.Core.List.{List, [], ◌∷◌, ◌++◌, map, flat_map}
-use Rattle.std.proofs.Math.Option.{Option, none, some}
 use Rattle.letters.specs.Lists.{bytes}
 use Rattle.letters.specs.declared.Letter.{Letter}
 use Rattle.pauli.specs.Letters.{letter_text}
@@ -9,7 +9,6 @@ use Rattle.letters.specs.Letters.{letter_byte}
 use Rattle.code_record.specs.declared.Code.{Code}
 use Rattle.refusals.specs.declared.ErrorPair.{ErrorPair}
 use Rattle.refusals.specs.declared.Refusal.{Refusal}
-use Rattle.refusals.specs.declared.Written.{Written}
 use Rattle.refusals.specs.Refusals.{values}
 use Rattle.code_record.specs.Record.{logical_count, radius}
 use Rattle.sheet.specs.Text.{line, decimal, After, written}
@@ -25,8 +24,8 @@ longest_report = 32768
 
 -- RULES, "The report": for 14 the letters of E and F.
 unfoldable pub errors_text : Option ErrorPair → List ℕ
-errors_text none = []
-errors_text (some pair) = line "e=" (letter_text pair.n pair.e) ++ line "f=" (letter_text pair.n pair.f)
+errors_text None = []
+errors_text (Some pair) = line "e=" (letter_text pair.n pair.e) ++ line "f=" (letter_text pair.n pair.f)
 
 -- RULES, "The report": an input with a fault has only the lines of its refusal.
 unfoldable pub refusal_text : Refusal → List ℕ
@@ -49,8 +48,8 @@ syndrome_lines (suc most) c at (b ∷ s) =
 
 -- RULES, "The report": one `c=` line for each syndrome, with the letters of its correction or `none`.
 unfoldable pub correction_value : Option (List Letter) → List ℕ
-correction_value none = bytes "none"
-correction_value (some s) = map letter_byte s
+correction_value None = bytes "none"
+correction_value (Some s) = map letter_byte s
 
 unfoldable pub correction_line : Code → List Bool → List ℕ
 correction_line c bits = line "c=" (correction_value (correction c bits))
@@ -68,9 +67,9 @@ report_of_syndromes c (stop refusal) = refusal_text refusal
 
 -- The report of a sheet that was read, with these bytes behind w, by the first fault of its record.
 unfoldable pub report_of_code : SheetRead → List ℕ → Option Refusal → List ℕ
-report_of_code q rest none =
+report_of_code q rest None =
     report_of_syndromes q.code (syndrome_lines (length rest) q.code (q.claim_at + 1) rest)
-report_of_code q rest (some refusal) = refusal_text refusal
+report_of_code q rest (Some refusal) = refusal_text refusal
 
 -- The report by what was read of the sheet's lines.
 unfoldable pub report_of_lines : Parsed SheetRead → List ℕ
@@ -82,5 +81,5 @@ unfoldable pub report_text : List ℕ → List ℕ
 report_text s = report_of_lines (read_lines s)
 
 -- RULES, "Calls and buffers": a report writes the refusals of its input as text, and its own refusal is 17.
-unfoldable pub write_report : List ℕ → List ℕ → After Written
-write_report s buffer = written none (report_text s) buffer
+unfoldable pub write_report : List ℕ → List ℕ → After (Result ℕ Refusal)
+write_report s buffer = written None (report_text s) buffer

@@ -1,7 +1,8 @@
 -- What is stated of the report.
+use Rattle.std.specs.Prelude.{Some, Result, Ok, Err}
+use Rattle.std.specs.Result.{result_err}
 use Rattle.std.specs.Prelude.{Bool, true, ◌⊎◌, ◌≡◌, ℕ, ◌+◌, ◌≤◌, ◌<◌, length}
 use mathlib.Core.List.{List, [], ◌∷◌, ◌++◌, map, flat_map, Mem, Memᴰ}
-use Rattle.std.proofs.Math.Option.{some}
 use Prim.Native.String.{◌++◌ as ◌⧺◌}
 use Rattle.pauli.specs.declared.Pauli.{Pauli}
 use Rattle.pauli.specs.Letters.{letter_text}
@@ -12,15 +13,12 @@ use Rattle.pauli.specs.Syndrome.{syndrome}
 use Rattle.code_record.specs.declared.Code.{Code}
 use Rattle.refusals.specs.declared.ErrorPair.{ErrorPair}
 use Rattle.refusals.specs.declared.Refusal.{Refusal}
-use Rattle.refusals.specs.declared.Written.{Written}
 use Rattle.code_record.specs.Record.{generators, on_qubits, radius, longest_input}
-use Rattle.refusals.specs.Refusals.{written_refusal}
 use Rattle.sheet.specs.Reader.{SheetRead, got, stop, read_lines, read_form}
 use Rattle.sheet.specs.Starred.{Entry, starred}
 use Rattle.sheet.specs.Statements.{RefusalLeaves, Among}
 use Rattle.sheet.specs.Text.{line, decimal, After, laid, untouched}
-use Rattle.admission.specs.declared.Admission.{Admission}
-use Rattle.admission.specs.Admission.{AdmissibleButForDistance, code_fault, admitted, admission_refusal, read_sheet}
+use Rattle.admission.specs.Admission.{AdmissibleButForDistance, code_fault, admitted, read_sheet}
 use Rattle.admission.specs.Statements.{FromEarliest}
 use Rattle.decoder.specs.Syndrome.{syndrome_text}
 use Rattle.decoder.specs.Statements.{IsCorrected, Refutes, Refuted}
@@ -34,10 +32,10 @@ ReportFits = (s : List ℕ) → length (report_text s) ≤ longest_report
 
 -- What a call left that has this text to write: the text, with its length for an answer, in every buffer that holds the
 -- longest report and in every one that is as long as the text; a shorter one is refused with 17, and is as it was.
-pub record WritesReport (text buffer : List ℕ) (after : After Written) : Type 0 where
+pub record WritesReport (text buffer : List ℕ) (after : After (Result ℕ Refusal)) : Type 0 where
   pub written : (longest_report ≤ length buffer) ⊎ (length text ≤ length buffer)
-      → after ≡ record { answer = Written.Count (length text); buffer = laid text buffer }
-  pub short : length buffer < length text → after ≡ untouched (Written.Refused Refusal.ShortBuffer) buffer
+      → after ≡ record { answer = Ok (length text); buffer = laid text buffer }
+  pub short : length buffer < length text → after ≡ untouched (Err Refusal.ShortBuffer) buffer
 
 -- The report's call has this text to write, whatever buffer it is lent.
 abbrev pub IsReported : List ℕ → List ℕ → Type 0
@@ -49,11 +47,11 @@ ReportIsWritten = (input : List ℕ) → IsReported input (report_text input)
 -- RULES, "Calls and buffers": the one refusal of a report's call is 17, and it leaves the buffer as it was.
 abbrev pub ReportRefusalNumbers : Type 0
 ReportRefusalNumbers =
-    (s buffer : List ℕ) (refusal : Refusal) → written_refusal (write_report s buffer).answer ≡ some refusal
+    (s buffer : List ℕ) (refusal : Refusal) → result_err (write_report s buffer).answer ≡ Some refusal
     → Among (17 ∷ []) refusal
 
 abbrev pub ReportRefusalsLeave : Type 0
-ReportRefusalsLeave = (s buffer : List ℕ) → RefusalLeaves written_refusal buffer (write_report s buffer)
+ReportRefusalsLeave = (s buffer : List ℕ) → RefusalLeaves result_err buffer (write_report s buffer)
 
 -- ---- a sheet and what stands behind it
 
@@ -77,13 +75,13 @@ NoSyndrome r s = (bits : List Bool) (behind : List ℕ) → length bits ≡ r �
 abbrev pub RefusalsAreReported : Type 0
 RefusalsAreReported =
     (s rest : List ℕ) (q : SheetRead) (refusal : Refusal) → read_form s ≡ got q []
-    → code_fault q.claim_at q.code ≡ some refusal → length (s ++ rest) ≤ longest_input
+    → code_fault q.claim_at q.code ≡ Some refusal → length (s ++ rest) ≤ longest_input
     → report_text (s ++ rest) ≡ refusal_text refusal
 
 -- An admitted sheet and any syndromes behind it have one `c=` line for each syndrome.
 abbrev pub SyndromesAreReported : Type 0
 SyndromesAreReported =
-    (s : List ℕ) (syndromes : List (List Bool)) → (read_sheet s).answer ≡ Admission.Admitted
+    (s : List ℕ) (syndromes : List (List Bool)) → (read_sheet s).answer ≡ Ok tt
     → HaveBits (read_sheet s).code.r syndromes → length (s ++ syndromes_text syndromes) ≤ longest_input
     → report_text (s ++ syndromes_text syndromes)
     ≡ code_text (read_sheet s).code ++ flat_map (correction_line (read_sheet s).code) syndromes
@@ -92,7 +90,7 @@ SyndromesAreReported =
 abbrev pub BadLinesAreReported : Type 0
 BadLinesAreReported =
     (s : List ℕ) (q : SheetRead) (syndromes : List (List Bool)) (rest : List ℕ) → read_form s ≡ got q []
-    → (read_sheet s).answer ≡ Admission.Admitted → HaveBits q.code.r syndromes → NoSyndrome q.code.r rest
+    → (read_sheet s).answer ≡ Ok tt → HaveBits q.code.r syndromes → NoSyndrome q.code.r rest
     → 0 < length rest → length (s ++ (syndromes_text syndromes ++ rest)) ≤ longest_input
     → report_text (s ++ (syndromes_text syndromes ++ rest))
     ≡ refusal_text (Refusal.Syndrome (q.claim_at + 1 + length syndromes))
@@ -107,8 +105,8 @@ pub record SameCode (c c' : Code) : Type 0 where
 
 abbrev pub LogicalsAreNotReported : Type 0
 LogicalsAreNotReported =
-    (s s' : List ℕ) (syndromes : List (List Bool)) → (read_sheet s).answer ≡ Admission.Admitted
-    → (read_sheet s').answer ≡ Admission.Admitted → SameCode (read_sheet s).code (read_sheet s').code
+    (s s' : List ℕ) (syndromes : List (List Bool)) → (read_sheet s).answer ≡ Ok tt
+    → (read_sheet s').answer ≡ Ok tt → SameCode (read_sheet s).code (read_sheet s').code
     → HaveBits (read_sheet s).code.r syndromes → length (s ++ syndromes_text syndromes) ≤ longest_input
     → length (s' ++ syndromes_text syndromes) ≤ longest_input
     → report_text (s ++ syndromes_text syndromes) ≡ report_text (s' ++ syndromes_text syndromes)
@@ -122,7 +120,7 @@ pub data ReportOf (input : List ℕ) : Type 0 where
   unread : (refusal : Refusal) → read_lines input ≡ stop refusal → Among (1 ∷ 2 ∷ 3 ∷ 4 ∷ 5 ∷ []) refusal
       → report_text input ≡ refusal_text refusal → ReportOf input
   faulty : (s rest : List ℕ) (q : SheetRead) (refusal : Refusal) → input ≡ s ++ rest → read_form s ≡ got q []
-      → code_fault q.claim_at q.code ≡ some refusal
+      → code_fault q.claim_at q.code ≡ Some refusal
       → Among (6 ∷ 7 ∷ 8 ∷ 9 ∷ 10 ∷ 11 ∷ 12 ∷ 13 ∷ 14 ∷ []) refusal → report_text input ≡ refusal_text refusal
       → ReportOf input
   misread : (s rest : List ℕ) (q : SheetRead) (syndromes : List (List Bool))
@@ -169,15 +167,15 @@ refutation_text q pair =
 
 -- RULES, "Guarantees": what a report's call left that shows corrections of errors. Behind the account of the code each
 -- error has a `c=` line with the letters of its correction.
-pub record CorrectsInReport (c : Code) (errors : List (Struck c)) (buffer : List ℕ) (after : After Written)
+pub record CorrectsInReport (c : Code) (errors : List (Struck c)) (buffer : List ℕ) (after : After (Result ℕ Refusal))
     : Type 0 where
   pub corrected : (E : Struck c) → IsCorrected c E.error
   pub writes : WritesReport (code_text c ++ corrected_lines c corrected errors) buffer after
 
 -- RULES, "Guarantees": what a report's call left that answers syndromes, whatever they are. Behind the account of the
 -- code each has its `c=` line, and that of an error's syndrome has the letters of the error's correction.
-pub record AnswersInReport (c : Code) (syndromes : List (List Bool)) (buffer : List ℕ) (after : After Written)
-    : Type 0 where
+pub record AnswersInReport (c : Code) (syndromes : List (List Bool)) (buffer : List ℕ)
+    (after : After (Result ℕ Refusal)) : Type 0 where
   pub corrected : (E : Struck c) → IsCorrected c E.error
   pub shown : (E : Struck c) → correction_line c (syndrome (generators c) E.error)
       ≡ line "c=" (map letter_byte (corrected E).letters)
@@ -185,7 +183,7 @@ pub record AnswersInReport (c : Code) (syndromes : List (List Bool)) (buffer : L
 
 -- RULES, "Guarantees": what a report's call left that refutes a distance. The report has those four lines and no other,
 -- with two errors that refute the distance, from the earliest logical error.
-pub record RefutesInReport (q : SheetRead) (buffer : List ℕ) (after : After Written) : Type 0 where
+pub record RefutesInReport (q : SheetRead) (buffer : List ℕ) (after : After (Result ℕ Refusal)) : Type 0 where
   pub pair : ErrorPair
   pub refutes : Refutes q.code pair.e pair.f
   pub from : FromEarliest q.code pair
@@ -195,11 +193,11 @@ pub record RefutesInReport (q : SheetRead) (buffer : List ℕ) (after : After Wr
 -- and the syndromes of errors that strike at most t qubits each, their corrections are shown; and so they are where
 -- other syndromes stand among them. Where it is a sheet that is admissible but for distance, with anything behind it,
 -- and two errors refute its distance, two such are shown. In every other case that sheet is admitted.
-pub record GuaranteedReport (input buffer : List ℕ) (after : After Written) : Type 0 where
-  pub corrected : (s : List ℕ) → (read_sheet s).answer ≡ Admission.Admitted
+pub record GuaranteedReport (input buffer : List ℕ) (after : After (Result ℕ Refusal)) : Type 0 where
+  pub corrected : (s : List ℕ) → (read_sheet s).answer ≡ Ok tt
       → (errors : List (Struck (read_sheet s).code)) → input ≡ s ++ error_lines (read_sheet s).code errors
       → length input ≤ longest_input → CorrectsInReport (read_sheet s).code errors buffer after
-  pub answered : (s : List ℕ) → (read_sheet s).answer ≡ Admission.Admitted → (syndromes : List (List Bool))
+  pub answered : (s : List ℕ) → (read_sheet s).answer ≡ Ok tt → (syndromes : List (List Bool))
       → HaveBits (read_sheet s).code.r syndromes → input ≡ s ++ syndromes_text syndromes
       → length input ≤ longest_input → AnswersInReport (read_sheet s).code syndromes buffer after
   pub refuted : (s rest : List ℕ) (q : SheetRead) → AdmissibleButForDistance s q → Refuted q.code
@@ -215,7 +213,7 @@ GuaranteeInReports = (input buffer : List ℕ) → GuaranteedReport input buffer
 -- An entry of the table is right: the answer of the sheet read by itself, the bytes of the report, and what the call
 -- for a report writes.
 pub record Right (e : Entry) : Type 0 where
-  pub answer : admission_refusal (read_sheet (bytes e.sheet)).answer ≡ e.refusal
+  pub answer : result_err (read_sheet (bytes e.sheet)).answer ≡ e.refusal
   pub report : report_text (bytes (e.sheet ⧺ e.behind)) ≡ bytes e.report
   pub call : IsReported (bytes (e.sheet ⧺ e.behind)) (bytes e.report)
 

@@ -1,11 +1,14 @@
 -- Readers within the qubits that a sheet may have, and the line of a family's row as one behind any key.
+use Rattle.std.specs.Prelude.{Option, None}
 use mathlib.Core.Bool.{true, false, cond}
 use mathlib.Core.List.{List}
 use mathlib.Core.Path.{◌≡◌, ap, sym, ◌∙◌}
 use Prim.Native.Nat.{ℕ, ◌+◌, ◌<◌, ◌≤◌}
 use Prim.Native.String.{String}
+use native.Mathlib.Omega.{arith}
 use borrow.Author.Tests.{le-ltb, lt-ltb}
 use lib.Dec.{ltb}
+use Rattle.pauli.specs.declared.Pauli.{Pauli}
 use Rattle.letters.specs.Lists.{bytes}
 use Rattle.refusals.specs.declared.Family.{Family}
 use Rattle.refusals.specs.declared.Refusal.{Refusal}
@@ -14,7 +17,8 @@ use Rattle.code_record.specs.Record.{most_qubits}
 use Rattle.sheet.specs.Reader.{Reader, stop, begins, line_of, read_row, is_line, row_line}
 use Rattle.line_parts.specs.LineValues.{key_of}
 use Rattle.line_kinds.proofs.Keys.{key-taken, row_kind, row-key}
-use Rattle.row_reader.specs.Answers.{row_behind_key, within_qubits}
+use Rattle.row_reader.specs.declared.RowRead.{RowRead}
+use Rattle.row_reader.specs.Answers.{row_behind_key, within_qubits, bytes_of, row_at, AnswersRow}
 
 -- Up to the most qubits, and beyond.
 module _ {A : Type 0} (n at : ℕ) (reader : Reader A) (s : List ℕ) where
@@ -25,6 +29,12 @@ module _ {A : Type 0} (n at : ℕ) (reader : Reader A) (s : List ℕ) where
   pub many-qubits : most_qubits < n → within_qubits n at reader s ≡ stop (Refusal.Form at)
   unfolding within_qubits
   many-qubits h = rw (lt-ltb most_qubits n h)
+
+-- No row was read, where the definition has none.
+pub answers-none : {s : List ℕ} {r : Option RowRead} {definition : ℕ → Reader Pauli} → r ≡ None
+    → ((at : ℕ) → definition at s ≡ stop (Refusal.Form at)) → AnswersRow s r definition
+answers-none {s} e stops =
+    record { within = omega (arith, ap bytes_of e); gives = λ at. ap (row_at at s) e ∙ sym (stops at) }
 
 -- Readers that give the same for these bytes.
 pub within_same : {A : Type 0} (n at : ℕ) (reader other : Reader A) (s : List ℕ) → reader s ≡ other s

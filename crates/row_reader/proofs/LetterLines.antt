@@ -1,7 +1,9 @@
 -- The lines with letters, of a row and of w. The letters tell what is read, and for a row the sign before them.
+use Rattle.std.specs.Prelude.{Option, Some, None}
+use Rattle.std.specs.Option.{option_map}
+use Rattle.letters.specs.Options.{bind}
 use mathlib.Core.Bool.{Bool, true, false, cond}
 use mathlib.Core.List.{List, ◌∷◌}
-use mathlib.Core.Option.{Option, none, some, map, bind}
 use mathlib.Core.Path.{◌≡◌, refl, ap, sym, ◌∙◌}
 use Prim.Native.Nat.{ℕ, suc, ◌+◌, ◌<◌, ◌≤◌}
 use native.Mathlib.Numerals.{add-one}
@@ -34,13 +36,13 @@ abbrev letters : ℕ → ℕ → List ℕ → Option Pauli
 letters from n = value_from from n (up_to most_qubits read_letters)
 
 abbrev signed : Option Sign → Option Pauli → Option Pauli
-signed sign plus = bind sign (λ g. map (λ P. row_of g P.a P.b) plus)
+signed sign plus = bind sign (λ g. option_map (λ P. row_of g P.a P.b) plus)
 
 -- ---- up to the most qubits, and beyond
 
 module _ (n at : ℕ) (reader : Reader Pauli) (s : List ℕ) where
   by_value : (o : Option Pauli) (rest : List ℕ) → (n ≤ most_qubits → reader s ≡ got_or (Refusal.Form at) o rest)
-      → (most_qubits < n → o ≡ none)
+      → (most_qubits < n → o ≡ None)
       → within_qubits n at reader s ≡ got_or (Refusal.Form at) o rest
   unfolding got_or
   by_value o rest few many = by_count (ltb most_qubits n) refl
@@ -53,7 +55,7 @@ module _ (n at : ℕ) (reader : Reader Pauli) (s : List ℕ) where
 
   pub refused-within : reader s ≡ stop (Refusal.Form at) → within_qubits n at reader s ≡ stop (Refusal.Form at)
   unfolding got_or
-  refused-within e = by_value none s (λ h. e) (λ h. refl)
+  refused-within e = by_value None s (λ h. e) (λ h. refl)
 
 -- ---- the line of a row
 
@@ -62,10 +64,10 @@ unfolding read_row read_letters bind of_letters signed_row row_of
 read-row c w = by_sign (read_sign c) (read_each read_letter w)
   where
     by_sign : (sign : Option Sign) (ls : Option (List Letter))
-        → bind sign (λ g. map (signed_row g) ls) ≡ signed sign (map of_letters ls)
-    by_sign none ls = refl
-    by_sign (some g) none = refl
-    by_sign (some g) (some ls) = refl
+        → bind sign (λ g. option_map (signed_row g) ls) ≡ signed sign (option_map of_letters ls)
+    by_sign None ls = refl
+    by_sign (Some g) None = refl
+    by_sign (Some g) (Some ls) = refl
 
 -- The value of a row's line: the sign, and the letters behind it.
 row-bytes : (n : ℕ) (s : List ℕ) → n + 3 < length s → take (n + 1) (drop 2 s) ≡ get_or s 2 0 ∷ take n (drop 3 s)
@@ -76,12 +78,12 @@ row-value-is : (n : ℕ) (s : List ℕ)
 unfolding value_from
 row-value-is n s =
     let places : n + 1 + 2 ≡ n + 3 = omega arith in
-    ap (λ i. cond (eqb (get_or s i 0) line_feed) (read_row (take (n + 1) (drop 2 s))) none) places
+    ap (λ i. cond (eqb (get_or s i 0) line_feed) (read_row (take (n + 1) (drop 2 s))) None) places
     ∙ by-feed (eqb (get_or s (n + 3) 0) line_feed) refl
   where
     by-feed : (b : Bool) → eqb (get_or s (n + 3) 0) line_feed ≡ b
-        → cond b (read_row (take (n + 1) (drop 2 s))) none
-        ≡ signed (read_sign (get_or s 2 0)) (cond b (read_letters (take n (drop 3 s))) none)
+        → cond b (read_row (take (n + 1) (drop 2 s))) None
+        ≡ signed (read_sign (get_or s 2 0)) (cond b (read_letters (take n (drop 3 s))) None)
     by-feed true e =
         ap read_row (row-bytes n s (feed-within 3 n read_letters s e)) ∙ read-row (get_or s 2 0) (take n (drop 3 s))
     by-feed false e = sym (bind-none (read_sign (get_or s 2 0)))
@@ -99,25 +101,25 @@ module _ (n at : ℕ) (s : List ℕ) where
       (row-value-is n s ∙ ap (signed sign) (sym (value-few most_qubits 3 n read_letters s h))))
       (λ h. ap (signed sign) (value-many most_qubits 3 n read_letters s h) ∙ bind-none sign)
 
-  pub row-no-letters : letters 3 n s ≡ none → within_qubits n at (row_behind_key n at) s ≡ stop (Refusal.Form at)
+  pub row-no-letters : letters 3 n s ≡ None → within_qubits n at (row_behind_key n at) s ≡ stop (Refusal.Form at)
   unfolding got_or
   row-no-letters e =
       row-line-is
       ∙ ap (λ o. got_or (Refusal.Form at) o (drop (n + 4) s))
       (ap (signed (read_sign (get_or s 2 0))) e ∙ bind-none (read_sign (get_or s 2 0)))
 
-  pub row-no-sign : read_sign (get_or s 2 0) ≡ none → within_qubits n at (row_behind_key n at) s
+  pub row-no-sign : read_sign (get_or s 2 0) ≡ None → within_qubits n at (row_behind_key n at) s
       ≡ stop (Refusal.Form at)
   unfolding got_or bind
   row-no-sign e =
       row-line-is ∙ ap (λ sign. got_or (Refusal.Form at) (signed sign (letters 3 n s)) (drop (n + 4) s)) e
 
-  pub row-value : {g : Sign} {P : Pauli} → read_sign (get_or s 2 0) ≡ some g → letters 3 n s ≡ some P
+  pub row-value : {g : Sign} {P : Pauli} → read_sign (get_or s 2 0) ≡ Some g → letters 3 n s ≡ Some P
       → within_qubits n at (row_behind_key n at) s ≡ got (row_of g P.a P.b) (drop (n + 4) s)
   unfolding got_or bind
   row-value {g} {P} e f =
       row-line-is ∙ ap (λ sign. got_or (Refusal.Form at) (signed sign (letters 3 n s)) (drop (n + 4) s)) e
-      ∙ ap (λ o. got_or (Refusal.Form at) (signed (some g) o) (drop (n + 4) s)) f
+      ∙ ap (λ o. got_or (Refusal.Form at) (signed (Some g) o) (drop (n + 4) s)) f
 
 -- ---- the line of w
 
@@ -141,11 +143,11 @@ module _ (n at : ℕ) (s : List ℕ) where
         ∙ ap (λ o. got_or (Refusal.Form at) o (drop (n + 3) s)) (sym (value-few most_qubits 2 n read_letters s h)))
         (value-many most_qubits 2 n read_letters s)
 
-    pub claim-no-letters : letters 2 n s ≡ none → within_qubits n at (claim_line n at) s ≡ stop (Refusal.Form at)
+    pub claim-no-letters : letters 2 n s ≡ None → within_qubits n at (claim_line n at) s ≡ stop (Refusal.Form at)
     unfolding got_or
     claim-no-letters e = claim-line-is ∙ ap (λ o. got_or (Refusal.Form at) o (drop (n + 3) s)) e
 
-    pub claim-value : {P : Pauli} → letters 2 n s ≡ some P
+    pub claim-value : {P : Pauli} → letters 2 n s ≡ Some P
         → within_qubits n at (claim_line n at) s ≡ got P (drop (n + 3) s)
     unfolding got_or
     claim-value e = claim-line-is ∙ ap (λ o. got_or (Refusal.Form at) o (drop (n + 3) s)) e

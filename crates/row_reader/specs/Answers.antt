@@ -1,4 +1,5 @@
 -- What the readers of lines with letters answer, in the terms of the sheet's definitions.
+use Rattle.std.specs.Prelude.{Option, Some, None}
 use Rattle.std.specs.Prelude.{cond, List, ◌≡◌, ℕ, ◌+◌, ◌≤◌, ltb, length, drop}
 use Rattle.pauli.specs.declared.Pauli.{Pauli}
 use Rattle.refusals.specs.declared.Refusal.{Refusal}
@@ -16,16 +17,16 @@ unfoldable pub within_qubits : {A : Type 0} → ℕ → ℕ → Reader A → Rea
 within_qubits n at reader s = cond (ltb most_qubits n) (stop (Refusal.Form at)) (reader s)
 
 -- How many bytes a line took.
-abbrev pub bytes_of : RowRead → ℕ
-bytes_of (RowRead.Got used row) = used
-bytes_of RowRead.OffForm = 0
+abbrev pub bytes_of : Option RowRead → ℕ
+bytes_of (Some read) = read.used
+bytes_of None = 0
 
 -- What a line was read as, where it is the line `at`.
-abbrev pub row_at : ℕ → List ℕ → RowRead → Parsed Pauli
-row_at at s (RowRead.Got used row) = got row (drop used s)
-row_at at s RowRead.OffForm = stop (Refusal.Form at)
+abbrev pub row_at : ℕ → List ℕ → Option RowRead → Parsed Pauli
+row_at at s (Some read) = got read.row (drop read.used s)
+row_at at s None = stop (Refusal.Form at)
 
 -- The answer is what the definition gives, whichever line it is, and the line took no more bytes than there are.
-pub record AnswersRow (s : List ℕ) (r : RowRead) (definition : ℕ → Reader Pauli) : Type 0 where
+pub record AnswersRow (s : List ℕ) (r : Option RowRead) (definition : ℕ → Reader Pauli) : Type 0 where
   pub within : bytes_of r ≤ length s
   pub gives : (at : ℕ) → row_at at s r ≡ definition at s

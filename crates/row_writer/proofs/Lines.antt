@@ -1,8 +1,9 @@
 -- The lines of one row, as the code writes them: the first bytes, the letters behind them one by one, the line feed.
 -- And what the calls answer.
-use mathlib.Core.Bool.{false, not}
+use Rattle.std.specs.Prelude.{Some, None, Ok, Err, cond}
+use Rattle.std.proofs.lemmas.Option.{none-some}
+use mathlib.Core.Bool.{Bool, true, false, not}
 use mathlib.Core.List.{List, [], ◌∷◌, ◌++◌}
-use mathlib.Core.Option.{none}
 use mathlib.Core.Path.{◌≡◌, refl, ap, sym, ◌∙◌}
 use Prim.Native.Nat.{ℕ, ◌+◌, ◌≤◌, ◌<◌}
 use Prim.Native.String.{String}
@@ -14,9 +15,9 @@ use Rattle.pauli.specs.Letters.{letter_text, row_text, sign_of}
 use Rattle.letters.specs.Letters.{sign_byte}
 use Rattle.letters.specs.Lists.{bytes}
 use Rattle.refusals.specs.declared.Refusal.{Refusal}
-use Rattle.refusals.specs.declared.Written.{Written}
+use Rattle.refusals.specs.Refusals.{refuse_if}
 use Rattle.code_record.specs.Record.{most_qubits, between, qubit_fault}
-use Rattle.code_record.proofs.Limits.{bounds-between}
+use Rattle.code_record.proofs.Limits.{between-bounds, bounds-between}
 use Rattle.sheet.specs.Text.{laid, line, line_feed}
 use Rattle.sheet.proofs.Laid.{sets-laid, set-laid, lent, back, back-laid}
 use Rattle.sheet.proofs.Lengths.{length-letter_text, length-row_text}
@@ -75,20 +76,29 @@ length-letters_line_text key n P = simp length-append (omega (arith, length-lett
 
 -- ---- the calls
 
-pub qubits-within : (n : ℕ) → 2 ≤ n → n ≤ most_qubits → qubit_fault n ≡ none
+pub qubits-within : (n : ℕ) → 2 ≤ n → n ≤ most_qubits → qubit_fault n ≡ None
 unfolding qubit_fault
 qubits-within n low high = refuse_if-false _ (ap not (bounds-between 2 most_qubits n low high))
+
+-- And what is known of n where it has no fault.
+pub qubits-allowed : (n : ℕ) → None ≡ qubit_fault n → (2 ≤ n) × (n ≤ most_qubits)
+unfolding qubit_fault refuse_if
+qubits-allowed n h = between-bounds 2 most_qubits n (go (between 2 most_qubits n) h)
+  where
+    go : (within : Bool) → None ≡ cond (not within) (Some Refusal.RecordLimits) None → within ≡ true
+    go true _ = refl
+    go false h = absurd (none-some _ h)
 
 -- What a caller with room is answered.
 module _ (key n : ℕ) (P : Pauli) (buffer : List ℕ) (low : 2 ≤ n) (high : n ≤ most_qubits) where
   pub row-has-room : length (row_line_text key n P) ≤ length buffer → write_row key n P buffer
-      ≡ record { answer = Written.Count (length (row_line_text key n P)); buffer = laid (row_line_text key n P) buffer }
+      ≡ record { answer = Ok (length (row_line_text key n P)); buffer = laid (row_line_text key n P) buffer }
   unfolding write_row
   row-has-room = written-whole _ _ (qubits-within n low high)
 
   pub letters-has-room : length (letters_line_text key n P) ≤ length buffer → write_letters key n P buffer
       ≡ record {
-        answer = Written.Count (length (letters_line_text key n P));
+        answer = Ok (length (letters_line_text key n P));
         buffer = laid (letters_line_text key n P) buffer;
       }
   unfolding write_letters
@@ -97,15 +107,15 @@ module _ (key n : ℕ) (P : Pauli) (buffer : List ℕ) (low : 2 ≤ n) (high : n
 -- What the two calls have to answer, as their code tells it.
 module _ (n : ℕ) (text buffer : List ℕ) where
   pub outside-limits : between 2 most_qubits n ≡ false
-      → Answers (qubit_fault n) text buffer (Written.Refused Refusal.RecordLimits) buffer
+      → Answers (qubit_fault n) text buffer (Err Refusal.RecordLimits) buffer
   unfolding qubit_fault
   outside-limits h = answers-fault text buffer (refuse_if-true _ (ap not h))
 
   module _ (low : 2 ≤ n) (high : n ≤ most_qubits) where
     pub too_short : length buffer < length text
-        → Answers (qubit_fault n) text buffer (Written.Refused Refusal.ShortBuffer) buffer
+        → Answers (qubit_fault n) text buffer (Err Refusal.ShortBuffer) buffer
     too_short = answers-short text buffer (qubits-within n low high)
 
     pub has_room : length text ≤ length buffer → {count : ℕ} {after : List ℕ} → count ≡ length text
-        → after ≡ laid text buffer → Answers (qubit_fault n) text buffer (Written.Count count) after
+        → after ≡ laid text buffer → Answers (qubit_fault n) text buffer (Ok count) after
     has_room = answers-whole text buffer (qubits-within n low high)

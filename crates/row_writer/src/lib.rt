@@ -3,13 +3,14 @@
 #![tactic(auto)]
 
 ghost use Rattle.std.specs.Prelude.{◌≡◌, ◌≤◌, ◌<◌, length};
-ghost use Rattle.code_record.specs.Record.{most_qubits, between};
+ghost use Rattle.code_record.specs.Record.{most_qubits};
 ghost use Rattle.sheet.specs.Text.{laid};
 ghost use Rattle.row_writer.specs.Lines.{letters_end, row_line_text, write_row, letters_line_text, write_letters};
 
+use code_record::check_qubits;
 use letters_writer::fill_letters;
 use pauli::Pauli;
-use refusals::{Refusal, Written};
+use refusals::Refusal;
 
 // The letters of a row, one for each of n qubits, and the line feed.
 fn letters_end(out: &mut [u8], n: usize, row: Pauli)
@@ -47,40 +48,29 @@ fn letters_line(out: &mut [u8], key: u8, n: usize, row: Pauli) -> usize
     n + 3
 }
 
-// Whether a code may have n qubits.
-fn qubits_allowed(n: usize) -> bool
-    ensures { result ≡ between 2 most_qubits n }
-{
-    2 <= n && n <= code_record::MOST_QUBITS
-}
-
 // The line of one row by itself, into an output buffer: 15 where n is not 2 to 24, then 17 where the buffer is shorter
 // than the line, then the line's bytes and their count. Whatever the row is, its sign is - where it has not that of +,
 // and mask bits above qubit n are not shown.
-pub fn write_row(key: u8, n: usize, row: Pauli, out: &mut [u8]) -> Written
+pub fn write_row(key: u8, n: usize, row: Pauli, out: &mut [u8]) -> Result<usize, Refusal>
     ensures value { result ≡ (write_row key n row out.old).answer }
     ensures out_after { out.new ≡ (write_row key n row out.old).buffer }
 {
-    if !qubits_allowed(n) {
-        return Written::Refused(Refusal::RecordLimits);
-    }
+    check_qubits(n)?;
     if out.len() < n + 4 {
-        return Written::Refused(Refusal::ShortBuffer);
+        return Err(Refusal::ShortBuffer);
     }
-    Written::Count(row_line(out, key, n, row))
+    Ok(row_line(out, key, n, row))
 }
 
 // The line of one row's letters by themselves, with no sign, into an output buffer: it refuses as `write_row` does, for
 // a line that is a byte shorter.
-pub fn write_letters(key: u8, n: usize, row: Pauli, out: &mut [u8]) -> Written
+pub fn write_letters(key: u8, n: usize, row: Pauli, out: &mut [u8]) -> Result<usize, Refusal>
     ensures value { result ≡ (write_letters key n row out.old).answer }
     ensures out_after { out.new ≡ (write_letters key n row out.old).buffer }
 {
-    if !qubits_allowed(n) {
-        return Written::Refused(Refusal::RecordLimits);
-    }
+    check_qubits(n)?;
     if out.len() < n + 3 {
-        return Written::Refused(Refusal::ShortBuffer);
+        return Err(Refusal::ShortBuffer);
     }
-    Written::Count(letters_line(out, key, n, row))
+    Ok(letters_line(out, key, n, row))
 }

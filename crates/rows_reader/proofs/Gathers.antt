@@ -1,8 +1,8 @@
 -- Rows that were gathered, against the definition of a sheet's rows: it reads them too, and goes on behind them. By
 -- induction on how many are read at most, from what one line is, which is the same on whichever line it stands.
+use Rattle.std.specs.Prelude.{Option, Some, None}
 use mathlib.Core.Bool.{Bool, true, false}
 use mathlib.Core.List.{List, [], ◌∷◌, ◌++◌}
-use mathlib.Core.Option.{Option, none, some}
 use mathlib.Core.Path.{◌≡◌, refl, ap, sym, subst, ◌∙◌}
 use Prim.Native.Nat.{ℕ, zero, suc, ◌+◌, ◌-◌, ◌<◌, ◌≤◌}
 use Prim.Native.String.{String}
@@ -50,8 +50,8 @@ any-line key n s = by-line (is_line (bytes key) (n + 1) s) refl (read_row (take 
     by-line : (b : Bool) → is_line (bytes key) (n + 1) s ≡ b → (o : Option Pauli) → read_row (take (n + 1) value) ≡ o
         → AnyLine key n s
     by-line false e o f = off-form (λ at. rw e)
-    by-line true e none f = off-form (λ at. rw (e, f))
-    by-line true e (some P) f =
+    by-line true e None f = off-form (λ at. rw (e, f))
+    by-line true e (Some P) f =
         has-row P (length (bytes key) + (n + 1 + 1)) (inside e)
         (λ at. rw (e, f) (ap (got P) (drop-drop (n + 1 + 1) (length (bytes key)) s)))
 

@@ -1,38 +1,38 @@
 -- What the readers of rows answer, in the terms of the sheet's definitions.
-use Rattle.std.specs.Prelude.{List, [], ◌≡◌, ℕ, ◌+◌, length, replicate}
+use Rattle.std.specs.Prelude.{Result, Ok, Err}
+use Rattle.std.specs.Prelude.{List, ◌≡◌, ℕ, ◌+◌, ◌-◌, length}
 use Rattle.pauli.specs.declared.Pauli.{Pauli}
-use Rattle.pauli.specs.Product.{identity}
-use Rattle.refusals.specs.declared.Lines.{Lines}
 use Rattle.refusals.specs.declared.Refusal.{Refusal}
 use Rattle.code_record.specs.Record.{row_room, filled}
-use Rattle.sheet.specs.Reader.{Parsed, Reader, done, ◌and_then◌, logical_lines}
-use Rattle.line_parts.specs.LineValues.{lines_of, value_or}
-use Rattle.rows_reader.specs.declared.RowsAnswer.{RowsAnswer}
+use Rattle.sheet.specs.Reader.{Parsed, Reader, got, stop, done, ◌and_then◌, logical_lines}
+use Rattle.rows_reader.specs.declared.RowsFault.{RowsFault}
 use Rattle.rows_reader.specs.declared.Rows.{Rows}
 use Rattle.rows_reader.specs.declared.Logicals.{Logicals}
 
 -- How many lines were read before the one that is refused.
-abbrev pub before : RowsAnswer → ℕ
-before (RowsAnswer.Read used) = 0
-before (RowsAnswer.OffForm lines) = lines
-before (RowsAnswer.Miscounted lines) = lines
+abbrev pub before : {A : Type 0} → Result A RowsFault → ℕ
+before (Ok read) = 0
+before (Err (RowsFault.OffForm lines)) = lines
+before (Err (RowsFault.Miscounted lines)) = lines
 
--- The answer in a sheet, where the first of the lines is the line `at`.
-abbrev pub lines_at : ℕ → RowsAnswer → Lines
-lines_at at (RowsAnswer.Read used) = Lines.Read used
-lines_at at (RowsAnswer.OffForm lines) = Lines.Refused (Refusal.Form (at + lines))
-lines_at at (RowsAnswer.Miscounted lines) = Lines.Refused (Refusal.GeneratorCount (at + lines))
+-- The refusal and the answer in a sheet, where the first of the lines is the line `at`.
+abbrev pub refusal_at : ℕ → RowsFault → Refusal
+refusal_at at (RowsFault.OffForm lines) = Refusal.Form (at + lines)
+refusal_at at (RowsFault.Miscounted lines) = Refusal.GeneratorCount (at + lines)
 
--- The answer for g lines, their count and their rows: what the definition gives, whichever line is the first, and no
--- rows beside a refusal.
-unfoldable pub rows_answer : List ℕ → Parsed (List Pauli) → Lines × ℕ × List Pauli
-rows_answer s p = (lines_of s p, length (value_or [] p), filled row_room (value_or [] p))
+abbrev pub lines_at : {A : Type 0} → ℕ → Result A RowsFault → Result A Refusal
+lines_at at (Ok read) = Ok read
+lines_at at (Err fault) = Err (refusal_at at fault)
 
-abbrev pub AnswersRows : List ℕ → Rows → (ℕ → Reader (List Pauli)) → Type 0
-AnswersRows s r definition = (at : ℕ) → (lines_at at r.answer, r.count, r.rows) ≡ rows_answer s (definition at s)
+-- The answer for g lines: how many bytes were read, the count of the rows, and the rows in an array; or the refusal. It
+-- is what the definition gives, whichever line is the first.
+unfoldable pub rows_answer : List ℕ → Parsed (List Pauli) → Result Rows Refusal
+rows_answer s (got gs rest) =
+    Ok (record { used = length s - length rest; count = length gs; rows = filled row_room gs })
+rows_answer s (stop refusal) = Err refusal
 
-abbrev pub no_rows : RowsAnswer → Rows
-no_rows answer = record { answer = answer; count = 0; rows = replicate row_room identity }
+abbrev pub AnswersRows : List ℕ → Result Rows RowsFault → (ℕ → Reader (List Pauli)) → Type 0
+AnswersRows s r definition = (at : ℕ) → lines_at at r ≡ rows_answer s (definition at s)
 
 -- RULES, "The sheet": k lines of X logicals, then k lines of Z logicals.
 unfoldable pub pair_lines : ℕ → ℕ → ℕ → Reader (List Pauli × List Pauli)
@@ -41,19 +41,11 @@ pair_lines k n at =
     logical_lines k "z=" n (at + k) and_then λ zs.
     done (xs, zs)
 
--- The answer for x and z lines, and their rows, in the same way.
-unfoldable pub logicals_answer : List ℕ → Parsed (List Pauli × List Pauli) → Lines × List Pauli × List Pauli
-logicals_answer s p =
-    let rows = value_or ([], []) p in
-    (lines_of s p, filled row_room rows.0, filled row_room rows.1)
+-- The answer for x and z lines, in the same way.
+unfoldable pub logicals_answer : List ℕ → Parsed (List Pauli × List Pauli) → Result Logicals Refusal
+logicals_answer s (got ls rest) =
+    Ok (record { used = length s - length rest; x = filled row_room ls.0; z = filled row_room ls.1 })
+logicals_answer s (stop refusal) = Err refusal
 
-abbrev pub AnswersLogicals : List ℕ → Logicals → (ℕ → Reader (List Pauli × List Pauli)) → Type 0
-AnswersLogicals s r definition = (at : ℕ) → (lines_at at r.answer, r.x, r.z) ≡ logicals_answer s (definition at s)
-
-abbrev pub no_logicals : ℕ → Logicals
-no_logicals lines =
-    record {
-      answer = RowsAnswer.OffForm lines;
-      x = replicate row_room identity;
-      z = replicate row_room identity;
-    }
+abbrev pub AnswersLogicals : List ℕ → Result Logicals RowsFault → (ℕ → Reader (List Pauli × List Pauli)) → Type 0
+AnswersLogicals s r definition = (at : ℕ) → lines_at at r ≡ logicals_answer s (definition at s)

@@ -1,4 +1,5 @@
 -- The lines of rows, one behind the other: their text, row by row, and their length. And what the call answers.
+use Rattle.std.specs.Prelude.{Ok}
 use mathlib.Core.List.{List, [], ◌∷◌, ◌++◌, flat_map, append-nil, append_assoc}
 use mathlib.Core.Path.{◌≡◌, ap, sym, ◌∙◌}
 use Prim.Native.Nat.{ℕ, ◌+◌, ◌*◌, ◌≤◌, ◌<◌, min}
@@ -13,7 +14,6 @@ use Rattle.pauli.specs.declared.Pauli.{Pauli}
 use Rattle.pauli.specs.Letters.{row_text}
 use Rattle.letters.specs.Lists.{bytes}
 use Rattle.pauli.specs.Product.{identity}
-use Rattle.refusals.specs.declared.Written.{Written}
 use Rattle.code_record.specs.Record.{most_qubits}
 use Rattle.sheet.specs.Text.{line, line_feed, laid}
 use Rattle.sheet.specs.Writer.{row_lines}
@@ -58,11 +58,11 @@ module _ (key n : ℕ) where
     length-first count h =
         length-rows_text (take count rows) ∙ ap (λ (k : ℕ). k * (n + 4)) (length-take-le count rows h)
 
-    pub first-room : (place count : ℕ) → place < count → count ≤ length rows
-        → length (rows_text key n (take place rows)) + (n + 4) ≤ length (rows_text key n (take count rows))
-    first-room place count h few =
-        let grown : (place + 1) * (n + 4) ≤ count * (n + 4) = mul-le-mul_right (n + 4) (omega arith) in
-        omega (arith, length-first place (omega arith), length-first count few)
+    pub first-room : (place : ℕ) → place < length rows
+        → length (rows_text key n (take place rows)) + (n + 4) ≤ length (rows_text key n rows)
+    first-room place h =
+        let grown : (place + 1) * (n + 4) ≤ length rows * (n + 4) = mul-le-mul_right (n + 4) (omega arith) in
+        omega (arith, length-first place (omega arith), length-rows_text rows)
 
 -- The rows that there are in an array, where so many are asked for.
 module _ (rows : List Pauli) (places : ℕ) (sized : length rows ≡ places) (count : ℕ) where
@@ -80,6 +80,6 @@ module _ (rows : List Pauli) (places : ℕ) (sized : length rows ≡ places) (co
 -- What a caller with room is answered.
 pub rows-has-room : (key n : ℕ) (rows : List Pauli) (buffer : List ℕ) → 2 ≤ n → n ≤ most_qubits
     → length (rows_text key n rows) ≤ length buffer → write_rows key n rows buffer
-    ≡ record { answer = Written.Count (length (rows_text key n rows)); buffer = laid (rows_text key n rows) buffer }
+    ≡ record { answer = Ok (length (rows_text key n rows)); buffer = laid (rows_text key n rows) buffer }
 unfolding write_rows
 rows-has-room key n rows buffer low high = written-whole _ _ (qubits-within n low high)

@@ -1,12 +1,12 @@
 -- What is stated of the lines of several rows.
+use Rattle.std.specs.Prelude.{Some}
+use Rattle.std.specs.Result.{result_err}
 use Rattle.std.specs.Prelude.{List, [], ◌∷◌, ◌≡◌, ℕ}
-use Rattle.std.proofs.Math.Option.{some}
 use Prim.Native.Char.{code}
 use Prim.Native.String.{String}
 use Rattle.pauli.specs.declared.Pauli.{Pauli}
 use Rattle.letters.specs.Lists.{bytes}
 use Rattle.refusals.specs.declared.Refusal.{Refusal}
-use Rattle.refusals.specs.Refusals.{written_refusal}
 use Rattle.sheet.specs.Statements.{RefusalLeaves, Among}
 use Rattle.sheet.specs.Writer.{row_lines}
 use Rattle.rows_writer.specs.Rows.{rows_text, write_rows}
@@ -21,10 +21,10 @@ RowsAreOfTheirKey =
 abbrev pub RowsRefusalsLeave : Type 0
 RowsRefusalsLeave =
     (key n : ℕ) (rows : List Pauli) (buffer : List ℕ)
-    → RefusalLeaves written_refusal buffer (write_rows key n rows buffer)
+    → RefusalLeaves result_err buffer (write_rows key n rows buffer)
 
 -- RULES, "Calls and buffers": the numbers with which the call refuses.
 abbrev pub RowsRefusalNumbers : Type 0
 RowsRefusalNumbers =
     (key n : ℕ) (rows : List Pauli) (buffer : List ℕ) (refusal : Refusal)
-    → written_refusal (write_rows key n rows buffer).answer ≡ some refusal → Among (15 ∷ 17 ∷ []) refusal
+    → result_err (write_rows key n rows buffer).answer ≡ Some refusal → Among (15 ∷ 17 ∷ []) refusal

@@ -7,31 +7,28 @@ ghost use Rattle.code_record.specs.Record.{row_room, most_qubits};
 ghost use Rattle.sheet.specs.Text.{laid};
 ghost use Rattle.rows_writer.specs.Rows.{rows_text, write_rows};
 
-use code_record::ROW_ROOM;
+use code_record::{ROW_ROOM, check_qubits};
 use pauli::Pauli;
-use refusals::{Refusal, Written};
+use refusals::{Refusal, bytes_written};
 
 // How many rows there are in an array, where `count` are asked for.
 pub fn rows_there(count: usize) -> usize
     ensures { result ≡ min count row_room }
 {
-    if count < ROW_ROOM { count } else { ROW_ROOM }
+    count.min(ROW_ROOM)
 }
 
-// The lines of the first rows, where there is room for them.
-fn row_lines(out: &mut [u8], key: u8, n: usize, count: usize, rows: [Pauli; ROW_ROOM]) -> usize
+// The lines of rows, where there is room for them.
+fn row_lines(out: &mut [u8], key: u8, n: usize, rows: &[Pauli]) -> usize
     requires le_n { 2 ≤ n }
     requires n_le_most_qubits { n ≤ most_qubits }
-    requires count_le_row_room { count ≤ row_room }
-    requires rows_in_bounds { length (rows_text key n (take count rows)) ≤ length out.old }
-    ensures value { result ≡ length (rows_text key n (take count rows)) }
-    ensures out_after { out.new ≡ laid (rows_text key n (take count rows)) out.old }
+    requires rows_in_bounds { length (rows_text key n rows.now) ≤ length out.old }
+    ensures value { result ≡ length (rows_text key n rows.now) }
+    ensures out_after { out.new ≡ laid (rows_text key n rows.now) out.old }
 {
     let mut end: usize = 0;
-    let mut place: usize = 0;
-    while place < count {
-        end += row_writer::write_row(key, n, rows[place], &mut out[end..]).count();
-        place += 1;
+    for row in rows {
+        end += bytes_written(row_writer::write_row(key, n, *row, &mut out[end..]));
     }
     end
 }
@@ -45,19 +42,14 @@ pub fn write_rows(
     count: usize,
     rows: [Pauli; ROW_ROOM],
     out: &mut [u8],
-) -> Written
+) -> Result<usize, Refusal>
     ensures value { result ≡ (write_rows key n (take count rows) out.old).answer }
     ensures out_after { out.new ≡ (write_rows key n (take count rows) out.old).buffer }
 {
-    if n < 2 {
-        return Written::Refused(Refusal::RecordLimits);
-    }
-    if n > code_record::MOST_QUBITS {
-        return Written::Refused(Refusal::RecordLimits);
-    }
+    check_qubits(n)?;
     let there = rows_there(count);
     if out.len() < there * (n + 4) {
-        return Written::Refused(Refusal::ShortBuffer);
+        return Err(Refusal::ShortBuffer);
     }
-    Written::Count(row_lines(out, key, n, there, rows))
+    Ok(row_lines(out, key, n, &rows[..there]))
 }

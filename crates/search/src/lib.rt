@@ -3,41 +3,39 @@
 // with what is left of a letter by the group's rows as second words it finds a logical error.
 #![tactic(auto)]
 
-ghost use Rattle.std.specs.Prelude.{List, ◌≡◌, ℕ, ◌+◌, ◌*◌, ◌^◌, min, ◌≤◌, ◌<◌, length, take};
-ghost use Rattle.std.proofs.Math.Option.{none};
+ghost use Rattle.std.specs.Prelude.{List, ◌≡◌, ℕ, ◌+◌, ◌*◌, ◌^◌, ◌≤◌, ◌<◌, length, take};
 ghost use Rattle.letters.specs.Letters.{struck_letter};
 ghost use Rattle.word_filter.specs.Filter.{NoneBefore};
-ghost use Rattle.letter_sums.specs.Sums.{placed_at, found_as, earliest_of, earliest_up_to, words_in, earliest_by};
+ghost use Rattle.letter_sums.specs.Sums.{placed_at, found_as, earliest_of, earliest_up_to, earliest_by};
 
-use letter_sums::{Found, QUBIT_ROOM, WORD_ROOM};
+use letter_sums::{FoundMasks, LetterWords, QUBIT_ROOM};
 use letters::Letter;
 use word_filter::{SLOTS, first_places, may_end};
 
 // The masks of `gap` letters I, then the letter numbered 0, 1, 2 (X, Y, Z), then `right` letters that have the masks a
 // and b.
-fn placed(gap: usize, letter: usize, right: usize, a: u32, b: u32) -> Found
+fn placed(gap: usize, letter: usize, right: usize, a: u32, b: u32) -> Option<FoundMasks>
     requires right_bound { gap + right < 32 }
     requires a_bound { a < 2 ^ right }
     requires b_bound { b < 2 ^ right }
     ensures { result ≡ placed_at gap (struck_letter letter) a b }
 {
     let l = Letter::struck(letter);
-    Found::At {
+    Some(FoundMasks {
         a: (l.x_bit() + 2 * a) << gap,
         b: (l.z_bit() + 2 * b) << gap,
-    }
+    })
 }
 
 // The string of letters I, whose words are 0: it is found where they are the wanted one and not the shunned one.
-fn identity(want: u32, shun: u64) -> Found
+fn identity(want: u32, shun: u64) -> Option<FoundMasks>
     ensures { (first second : List ℕ) (n : ℕ) → result ≡ found_as (earliest_of first second n 0 want shun) }
 {
-    if want == 0 {
-        if shun != 0 {
-            return Found::At { a: 0, b: 0 };
-        }
+    if want == 0 && shun != 0 {
+        Some(FoundMasks { a: 0, b: 0 })
+    } else {
+        None
     }
-    Found::Nothing
 }
 
 // The earliest string of a weight on the last `qubits` qubits. The fewer qubits are to the right of the first
@@ -50,7 +48,7 @@ fn completion(
     weight: usize,
     want: u32,
     shun: u64,
-) -> Found
+) -> Option<FoundMasks>
     requires qubits_bound { qubits ≤ 32 }
     requires qubits_in_bounds { 3 * qubits ≤ length first.now }
     requires qubits_in_bounds_2 { 3 * qubits ≤ length second.now }
@@ -61,7 +59,7 @@ fn completion(
         return identity(want, shun);
     }
     let letters = weight - 1;
-    'search: loop {
+    'search: {
         for right in letters..qubits {
             for letter in 0..3usize {
                 let place = 3 * right + letter;
@@ -76,21 +74,14 @@ fn completion(
                         rest,
                         shun ^ second[place],
                     );
-                    if let Found::At { a, b } = behind {
+                    if let Some(FoundMasks { a, b }) = behind {
                         break 'search placed(qubits - right - 1, letter, right, a, b);
                     }
                 }
             }
         }
-        break Found::Nothing;
+        None
     }
-}
-
-// The smaller of the two.
-fn smaller(m: usize, n: usize) -> usize
-    ensures { result ≡ min m n }
-{
-    if m < n { m } else { n }
 }
 
 // The earliest string of weight at most t, where none of one letter or none is found. No string is heavier than it has
@@ -103,32 +94,38 @@ fn lightest(
     t: usize,
     want: u32,
     shun: u64,
-) -> Found
+) -> Option<FoundMasks>
     requires qubits_bound { qubits ≤ 32 }
     requires qubits_in_bounds { 3 * qubits ≤ length first.now }
     requires qubits_in_bounds_2 { 3 * qubits ≤ length second.now }
     requires none_before { NoneBefore places.now (take (3 * qubits) first.now) }
-    requires by_index { (v : ℕ) → v < 2 → earliest_of first.now second.now qubits v want shun ≡ none }
+    requires by_index { (v : ℕ) → v < 2 → earliest_of first.now second.now qubits v want shun ≡ None }
     ensures { result ≡ found_as (earliest_up_to first.now second.now qubits t want shun) }
 {
-    let most = smaller(t, qubits);
-    'search: loop {
-        for weight in 2..most + 1 {
+    'search: {
+        for weight in 2..=t.min(qubits) {
             let found = completion(places, first, second, qubits, weight, want, shun);
-            if let Found::At { .. } = found {
+            if found.is_some() {
                 break 'search found;
             }
         }
-        break Found::Nothing;
+        None
     }
 }
 
 // The same, with the table by which two letters and more are looked for.
-fn heavier(first: &[u32], second: &[u64], qubits: usize, t: usize, want: u32, shun: u64) -> Found
+fn heavier(
+    first: &[u32],
+    second: &[u64],
+    qubits: usize,
+    t: usize,
+    want: u32,
+    shun: u64,
+) -> Option<FoundMasks>
     requires qubits_bound { qubits ≤ 32 }
     requires qubits_in_bounds { 3 * qubits ≤ length first.now }
     requires qubits_in_bounds_2 { 3 * qubits ≤ length second.now }
-    requires by_index { (v : ℕ) → v < 2 → earliest_of first.now second.now qubits v want shun ≡ none }
+    requires by_index { (v : ℕ) → v < 2 → earliest_of first.now second.now qubits v want shun ≡ None }
     ensures { result ≡ found_as (earliest_up_to first.now second.now qubits t want shun) }
 {
     let mut places = [0u8; SLOTS];
@@ -137,50 +134,35 @@ fn heavier(first: &[u32], second: &[u64], qubits: usize, t: usize, want: u32, sh
 }
 
 // The earliest string of one letter: the words are tried in the order of the strings.
-fn lone(first: &[u32], second: &[u64], qubits: usize, want: u32, shun: u64) -> Found
+fn lone(first: &[u32], second: &[u64], qubits: usize, want: u32, shun: u64) -> Option<FoundMasks>
     requires qubits_bound { qubits ≤ 32 }
     requires qubits_in_bounds { 3 * qubits ≤ length first.now }
     requires qubits_in_bounds_2 { 3 * qubits ≤ length second.now }
     ensures { result ≡ found_as (earliest_of first.now second.now qubits 1 want shun) }
 {
-    'search: loop {
+    'search: {
         for place in 0..3 * qubits {
-            if first[place] == want {
-                if second[place] != shun {
-                    break 'search placed(qubits - place / 3 - 1, place % 3, place / 3, 0, 0);
-                }
+            if first[place] == want && second[place] != shun {
+                break 'search placed(qubits - place / 3 - 1, place % 3, place / 3, 0, 0);
             }
         }
-        break Found::Nothing;
+        None
     }
 }
 
 // The earliest string of weight at most t on the qubits that have words. One letter or none is looked for without the
 // table, which is made where more are needed.
-pub fn earliest<'a>(
-    first: &'a [u32; WORD_ROOM],
-    second: &'a [u64; WORD_ROOM],
-    qubits: usize,
-    t: usize,
-    want: u32,
-    shun: u64,
-) -> Found
-    ensures { result ≡ earliest_by (words_in qubits first.now second.now) t want shun }
+pub fn earliest(words: &LetterWords, t: usize, want: u32, shun: u64) -> Option<FoundMasks>
+    ensures { result ≡ earliest_by words.now t want shun }
 {
-    let n = smaller(qubits, QUBIT_ROOM);
+    let n = words.qubits.min(QUBIT_ROOM);
     let none = identity(want, shun);
-    if let Found::At { .. } = none {
+    if none.is_some() || t < 1 {
         return none;
     }
-    if t < 1 {
-        return none;
-    }
-    let light = lone(first, second, n, want, shun);
-    if let Found::At { .. } = light {
+    let light = lone(&words.first, &words.second, n, want, shun);
+    if light.is_some() || t < 2 {
         return light;
     }
-    if t < 2 {
-        return light;
-    }
-    heavier(first, second, n, t, want, shun)
+    heavier(&words.first, &words.second, n, t, want, shun)
 }

@@ -1,8 +1,8 @@
 -- What each reader of a sheet's lines has read where it gives a value, and which numbers its refusals have. A line is
 -- known from its value (Line, Values); rows one below the other go by induction, a row and then the others.
+use Rattle.std.specs.Prelude.{Some}
 use mathlib.Core.Bool.{Bool, true, false, cond, ◌||◌}
 use mathlib.Core.List.{List, [], ◌∷◌, map, flat_map, append_assoc}
-use mathlib.Core.Option.{some}
 use mathlib.Core.Path.{◌≡◌, refl, ap₂, ◌∙◌}
 use Prim.Native.Nat.{ℕ, zero, suc, ◌+◌, ◌≤◌}
 use Prim.Native.String.{String}
@@ -59,7 +59,7 @@ number-line-outcome : (key : String) (width low high : ℕ) (form range : Refusa
     → Outcome (NumberLine key low high s) OfForm ((read_line key width read_number form and_then in_range low high
     range) s)
 number-line-outcome key width low high form range s hf hr =
-    let back : (v : List ℕ) (m : ℕ) → length v ≡ width → read_number v ≡ some m → Unit {0} × (v ≡ decimal m) =
+    let back : (v : List ℕ) (m : ℕ) → length v ≡ width → read_number v ≡ Some m → Unit {0} × (v ≡ decimal m) =
     λ v m h e. (tt, number-written v m e) in
     continue-outcome (line-outcome key width read_number back form s hf) λ m s' h.
     in-range-outcome low high m range s' (λ b. record { lawful = b; bytes_read = h.bytes_read }) hr

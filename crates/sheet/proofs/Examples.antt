@@ -1,4 +1,5 @@
 -- The form of a sheet at its edges, computed: what is refused with which number at which line, and sheets that return.
+use Rattle.std.specs.Prelude.{Ok, Err}
 use mathlib.Core.Bool.{Bool, true, false, ◌&&◌, cond}
 use mathlib.Core.List.{List, [], ◌∷◌, ◌++◌, map, Memᴰ}
 use mathlib.Core.Path.{◌≡◌, refl}
@@ -12,9 +13,7 @@ use Rattle.pauli.specs.Letters.{signed_row, of_letters}
 use Rattle.letters.specs.Lists.{bytes, all_of}
 use Rattle.pauli.proofs.Table.{each}
 use Rattle.code_record.specs.declared.Code.{Code}
-use Rattle.refusals.specs.declared.Lines.{Lines}
 use Rattle.refusals.specs.declared.Refusal.{Refusal}
-use Rattle.refusals.specs.declared.Written.{Written}
 use Rattle.code_record.specs.Record.{longest_input, code_of, empty_code}
 use Rattle.code_record.specs.Record.{between, within_limits, logical_count, radius, claim_at, Sized}
 use Rattle.refusals.specs.Refusals.{values}
@@ -156,21 +155,21 @@ rooms = (record { room_g = refl; room_x = refl; room_z = refl }, record { room_g
 
 -- 17 at one byte less than the sheet has, 15 before it; the bytes behind the sheet stay.
 writer-refuses :
-    (write_sheet code_a (replicate 69 0) ≡ untouched (Written.Refused Refusal.ShortBuffer) (replicate 69 0))
-    × (write_sheet empty_code [] ≡ untouched (Written.Refused Refusal.RecordLimits) [])
+    (write_sheet code_a (replicate 69 0) ≡ untouched (Err Refusal.ShortBuffer) (replicate 69 0))
+    × (write_sheet empty_code [] ≡ untouched (Err Refusal.RecordLimits) [])
 unfolding code_a definitions
 writer-refuses = (refl, refl)
 
 writer-writes :
-    write_sheet code_a (replicate 72 7) ≡ record { answer = Written.Count 70; buffer = bytes sheet_a ++ 7 ∷ 7 ∷ [] }
+    write_sheet code_a (replicate 72 7) ≡ record { answer = Ok 70; buffer = bytes sheet_a ++ 7 ∷ 7 ∷ [] }
 unfolding code_a definitions
 writer-writes = refl
 
 -- ---- the readings
 
 readings :
-    (lines_reading (bytes (sheet_a ⧺ "s=0001\n")) ≡ record { answer = Lines.Read 70; claim_at = 9; code = code_a })
+    (lines_reading (bytes (sheet_a ⧺ "s=0001\n")) ≡ record { answer = Ok 70; claim_at = 9; code = code_a })
     × (form_reading (bytes (sheet_a ⧺ "s=0001\n"))
-    ≡ record { answer = Lines.Refused (Refusal.Form 10); claim_at = 0; code = empty_code })
+    ≡ record { answer = Err (Refusal.Form 10); claim_at = 0; code = empty_code })
 unfolding code_a definitions
 readings = (refl, refl)

@@ -1,8 +1,8 @@
 -- A line: its key, its value's text, a line feed. The reader of a line reads such bytes, with anything behind them, and
 -- it reads no others, if its value is read from the value's text and from no other bytes (Values).
+use Rattle.std.specs.Prelude.{Option, Some}
 use mathlib.Core.Bool.{true, ◌&&◌, false≢true}
 use mathlib.Core.List.{List, [], ◌∷◌, ◌++◌, append_assoc}
-use mathlib.Core.Option.{Option, some}
 use mathlib.Core.Path.{◌≡◌, refl, ap, ap₂, sym, ◌∙◌}
 use Prim.Native.Nat.{ℕ, zero, suc, ◌+◌, ◌<◌}
 use Prim.Native.String.{String}
@@ -37,7 +37,7 @@ nonzero-within (x ∷ l) (suc m) h = omega (arith, nonzero-within l m h)
 
 module _
     {A : Type 0} {text : A → List ℕ} {Law : A → Type 0} (key : String) (m : ℕ) (read : List ℕ → Option A)
-    (back : (v : List ℕ) (a : A) → length v ≡ m → read v ≡ some a → Law a × (v ≡ text a)) where
+    (back : (v : List ℕ) (a : A) → length v ≡ m → read v ≡ Some a → Law a × (v ≡ text a)) where
   pub line-outcome : {Stop : Refusal → Type 0} (refusal : Refusal) (s : List ℕ) → Stop refusal
       → Outcome (Took (λ a. line key (text a)) Law s) Stop (read_line key m read refusal s)
   unfolding line_of is_line line line_feed
@@ -50,7 +50,7 @@ module _
       value : List ℕ
       value = drop (length (bytes key)) s
 
-      took : begins (bytes key) s ≡ true → get_or value m 0 ≡ 10 → (a : A) → read (take m value) ≡ some a
+      took : begins (bytes key) s ≡ true → get_or value m 0 ≡ 10 → (a : A) → read (take m value) ≡ Some a
           → Took (λ a. line key (text a)) Law s a (drop (m + 1) value)
       took b f a e =
           let within : m < length value = nonzero-within value m (omega arith) in
@@ -78,7 +78,7 @@ line-begins key value rest = rw line-then (begins-itself (bytes key) _)
 
 pub line-returns : {A : Type 0} (key : String) (m : ℕ) (read : List ℕ → Option A) (refusal : Refusal)
     (value rest : List ℕ) (a : A)
-    → length value ≡ m → read value ≡ some a → read_line key m read refusal (line key value ++ rest) ≡ got a rest
+    → length value ≡ m → read value ≡ Some a → read_line key m read refusal (line key value ++ rest) ≡ got a rest
 unfolding line_of is_line got_or
 line-returns key m read refusal value rest a long h =
     rw (

@@ -1,18 +1,18 @@
 -- The numbers with which the reader of the lines and the writer refuse. A law of refusals holds of a call's answer if
 -- it holds of each check's refusal: it passes through a chain of checks and through a guarded call. The reader's
 -- refusals come with what is known of its outcome.
+use Rattle.std.specs.Prelude.{Option, Some, None, Err}
+use Rattle.std.specs.Result.{result_err}
 use mathlib.Core.Bool.{Bool, true, false}
 use mathlib.Core.List.{List}
-use mathlib.Core.Option.{Option, none, some}
 use mathlib.Core.Path.{◌≡◌, refl}
 use Prim.Native.Nat.{ℕ}
 use lib.ListN.{length}
 use Rattle.letters.specs.Lists.{any_of}
 use Rattle.code_record.specs.declared.Code.{Code}
 use Rattle.refusals.specs.declared.Refusal.{Refusal}
-use Rattle.refusals.specs.declared.Written.{Written}
 use Rattle.code_record.specs.Record.{limits_fault}
-use Rattle.refusals.specs.Refusals.{lines_refusal, written_refusal, refuse_if, ◌then◌}
+use Rattle.refusals.specs.Refusals.{refuse_if, ◌then◌}
 use Rattle.sheet.specs.Reader.{Parsed, SheetRead, answered, lines_reading, form_reading}
 use Rattle.sheet.specs.Statements.{SheetRefusalNumbers}
 use Rattle.sheet.specs.Text.{After, untouched, guarded, room_fault, written}
@@ -22,15 +22,15 @@ use Rattle.sheet.proofs.ReadBack.{read-lines-outcome, read-form-outcome}
 
 -- Where there is a refusal, it is lawful.
 pub data IfRefused (Law : Refusal → Type 0) : Option Refusal → Type 0 where
-  unrefused : IfRefused Law none
-  refused : {refusal : Refusal} → Law refusal → IfRefused Law (some refusal)
+  unrefused : IfRefused Law None
+  refused : {refusal : Refusal} → Law refusal → IfRefused Law (Some refusal)
 
 module _ {Law : Refusal → Type 0} where
-  pub law-of-refusal : {fault : Option Refusal} → IfRefused Law fault → (refusal : Refusal) → fault ≡ some refusal
+  pub law-of-refusal : {fault : Option Refusal} → IfRefused Law fault → (refusal : Refusal) → fault ≡ Some refusal
       → Law refusal
   law-of-refusal h refusal e = lawful (rw e at h)
     where
-      lawful : {refusal : Refusal} → IfRefused Law (some refusal) → Law refusal
+      lawful : {refusal : Refusal} → IfRefused Law (Some refusal) → Law refusal
       lawful (refused h) = h
 
   pub refuse_if-lawful : (test : Bool) (refusal : Refusal) → Law refusal → IfRefused Law (refuse_if test refusal)
@@ -54,7 +54,7 @@ module _ {Law : Refusal → Type 0} where
 
   -- A call whose answer carries the refusals of its checks.
   pub guarded-lawful : {A : Type 0} (refusalOf : A → Option Refusal) (answer : Refusal → A)
-      → ((refusal : Refusal) → refusalOf (answer refusal) ≡ some refusal) → {fault : Option Refusal} (buffer : List ℕ)
+      → ((refusal : Refusal) → refusalOf (answer refusal) ≡ Some refusal) → {fault : Option Refusal} (buffer : List ℕ)
       (after : After A) → IfRefused Law fault → IfRefused Law (refusalOf after.answer)
       → IfRefused Law (refusalOf (guarded answer fault buffer after).answer)
   unfolding guarded untouched
@@ -62,15 +62,15 @@ module _ {Law : Refusal → Type 0} where
   guarded-lawful refusalOf answer carries buffer after (refused {refusal} h) _ = rw (carries refusal) (refused h)
 
   pub written-lawful : {fault : Option Refusal} (text buffer : List ℕ) → IfRefused Law fault → Law Refusal.ShortBuffer
-      → IfRefused Law (written_refusal (written fault text buffer).answer)
-  unfolding written written_refusal
+      → IfRefused Law (result_err (written fault text buffer).answer)
+  unfolding written
   written-lawful text buffer h short =
-      guarded-lawful written_refusal Written.Refused (λ refusal. refl) buffer _
+      guarded-lawful result_err Err (λ refusal. refl) buffer _
       (then-lawful h (room-lawful (length text) buffer short)) unrefused
 
   answered-lawful : {Got : SheetRead → List ℕ → Type 0} {p : Parsed SheetRead} (s : List ℕ) → Outcome Got Law p
-      → IfRefused Law (lines_refusal (answered s p).answer)
-  unfolding answered lines_refusal
+      → IfRefused Law (result_err (answered s p).answer)
+  unfolding answered
   answered-lawful s (gets h) = unrefused
   answered-lawful s (stops h) = refused h
 

@@ -1,8 +1,8 @@
 -- What is known of a reader's outcome: of a value and the rest of the bytes, and of a refusal. Such a fact passes from
 -- step to step of a reader as its bytes do.
+use Rattle.std.specs.Prelude.{Option, Some, None}
 use mathlib.Core.Bool.{Bool, true, false, cond}
 use mathlib.Core.List.{List, ◌++◌}
-use mathlib.Core.Option.{Option, none, some}
 use mathlib.Core.Path.{◌≡◌, refl}
 use Prim.Native.Nat.{ℕ}
 use Rattle.refusals.specs.declared.Refusal.{Refusal}
@@ -31,11 +31,11 @@ module _ {A : Type 0} {Got : A → List ℕ → Type 0} {Stop : Refusal → Type
   cond-outcome true hp hq = hp refl
   cond-outcome false hp hq = hq refl
 
-  pub got_or-outcome : (o : Option A) (rest : List ℕ) (refusal : Refusal) → ((a : A) → o ≡ some a → Got a rest)
+  pub got_or-outcome : (o : Option A) (rest : List ℕ) (refusal : Refusal) → ((a : A) → o ≡ Some a → Got a rest)
       → Stop refusal → Outcome Got Stop (got_or refusal o rest)
   unfolding got_or
-  got_or-outcome none rest refusal h r = stops r
-  got_or-outcome (some a) rest refusal h r = gets (h a refl)
+  got_or-outcome None rest refusal h r = stops r
+  got_or-outcome (Some a) rest refusal h r = gets (h a refl)
 
 -- What was read of s is the value's text, and the value is lawful.
 pub record Took {A : Type 0} (text : A → List ℕ) (Law : A → Type 0) (s : List ℕ) (a : A) (rest : List ℕ) : Type 0 where

@@ -2,10 +2,13 @@
 -- digits, a row's its sign and letters, a claim's its letters. Each byte is read as what is written as that byte; the
 -- digits of a number are those of its tenth and one more; and letters say what the masks of a row do (pauli's Letters
 -- and Rows).
+use Rattle.std.specs.Option.{option_map}
+use Rattle.std.specs.Prelude.{Option, Some}
+use Rattle.letters.specs.Options.{bind}
+use Rattle.std.proofs.lemmas.Option.{none-some}
+use Rattle.letters.proofs.Options.{bind-some, map-some}
 use mathlib.Core.Bool.{Bool, true, false}
 use mathlib.Core.List.{List, [], ◌∷◌, ◌++◌, map, foldl, append-nil, Forall₂}
-use mathlib.Core.Option
-use mathlib.Core.Option.{Option, some, bind, bind-eq-some_iff, map-eq-some_iff, none-ne-some}
 use mathlib.Core.Path.{◌≡◌, refl, ap, ap₂, sym, ◌∙◌}
 use Prim.Native.Char.{code}
 use Prim.Native.Nat.{ℕ, zero, suc, ◌+◌, ◌-◌, ◌*◌, ◌/◌, ◌%◌, ◌^◌, ◌<◌, ◌≤◌}
@@ -36,58 +39,58 @@ use Rattle.sheet.proofs.Lengths.{decimal-one, decimal-snoc, by_digits}
 -- ---- bytes
 
 -- Each byte is read as the value at its place.
-pub read_each-each : {A : Type 0} (read : ℕ → Option A) (cs : List ℕ) {xs : List A} → read_each read cs ≡ some xs
-    → Forall₂ (λ c x. read c ≡ some x) cs xs
+pub read_each-each : {A : Type 0} (read : ℕ → Option A) (cs : List ℕ) {xs : List A} → read_each read cs ≡ Some xs
+    → Forall₂ (λ c x. read c ≡ Some x) cs xs
 unfolding read_each
 read_each-each read [] {xs} e = let e : [] ≡ xs = cc in rw (← e) Forall₂.nil
 read_each-each read (c ∷ cs) {xs} e =
-    let b = (bind-eq-some_iff (read c) _).0 e in
-    let m = (map-eq-some_iff (λ rest. b.0 ∷ rest) (read_each read cs)).0 b.2 in
+    let b = bind-some (read c) _ e in
+    let m = map-some (λ rest. b.0 ∷ rest) (read_each read cs) b.2 in
     rw (← m.2) (Forall₂.cons b.1 (read_each-each read cs m.1))
 
 module _ {A : Type 0} (byte : A → ℕ) (read : ℕ → Option A) where
-  pub each-written : ((c : ℕ) (a : A) → read c ≡ some a → c ≡ byte a) → (cs : List ℕ) {l : List A}
-      → read_each read cs ≡ some l → cs ≡ map byte l
+  pub each-written : ((c : ℕ) (a : A) → read c ≡ Some a → c ≡ byte a) → (cs : List ℕ) {l : List A}
+      → read_each read cs ≡ Some l → cs ≡ map byte l
   each-written written cs e = go (read_each-each read cs e)
     where
-      go : {cs : List ℕ} {l : List A} → Forall₂ (λ c a. read c ≡ some a) cs l → cs ≡ map byte l
+      go : {cs : List ℕ} {l : List A} → Forall₂ (λ c a. read c ≡ Some a) cs l → cs ≡ map byte l
       go Forall₂.nil = refl
       go (Forall₂.cons {a = c} {b = a} e es) = ap₂ ◌∷◌ (written c a e) (go es)
 
-  pub each_read : ((a : A) → read (byte a) ≡ some a) → (l : List A) → read_each read (map byte l) ≡ some l
+  pub each_read : ((a : A) → read (byte a) ≡ Some a) → (l : List A) → read_each read (map byte l) ≡ Some l
   unfolding read_each bind
   each_read returns [] = refl
   each_read returns (a ∷ l) = rw (returns a, each_read returns l)
 
 module _ {A : Type 0} (test : A → Bool) where
-  first_of-passes : (xs : List A) {x : A} → first_of test xs ≡ some x → test x ≡ true
+  first_of-passes : (xs : List A) {x : A} → first_of test xs ≡ Some x → test x ≡ true
   unfolding first_of
-  first_of-passes [] {x} e = absurd (none-ne-some x e)
+  first_of-passes [] {x} e = absurd (none-some x e)
   first_of-passes (y ∷ ys) {x} e = go (test y) refl (first_of-passes ys)
     where
-      go : (t : Bool) → test y ≡ t → (first_of test ys ≡ some x → test x ≡ true) → test x ≡ true
-      go true p ih = let q : some y ≡ some x = rw (p, first_of) at e in cc
+      go : (t : Bool) → test y ≡ t → (first_of test ys ≡ Some x → test x ≡ true) → test x ≡ true
+      go true p ih = let q : Some y ≡ Some x = rw (p, first_of) at e in cc
       go false p ih = ih (rw (p, first_of) at e)
 
 -- A byte that is read as one of some values is that value's byte.
-pub read_byte-byte : {A : Type 0} (byte : A → ℕ) (values : List A) (c : ℕ) (x : A) → read_byte byte values c ≡ some x
+pub read_byte-byte : {A : Type 0} (byte : A → ℕ) (values : List A) (c : ℕ) (x : A) → read_byte byte values c ≡ Some x
     → c ≡ byte x
 unfolding read_byte
 read_byte-byte byte values c x e = eqb-true c (byte x) (first_of-passes (λ a. eqb c (byte a)) values e)
 
 -- ---- signs and letters
 
-sign-written : (c : ℕ) (sign : Sign) → read_sign c ≡ some sign → c ≡ sign_byte sign
+sign-written : (c : ℕ) (sign : Sign) → read_sign c ≡ Some sign → c ≡ sign_byte sign
 unfolding read_sign
 sign-written c sign e = read_byte-byte sign_byte _ c sign e
 
-sign_read : (s : Sign) → read_sign (sign_byte s) ≡ some s
+sign_read : (s : Sign) → read_sign (sign_byte s) ≡ Some s
 unfolding read_sign read_byte first_of
 sign_read Plus = refl
 sign_read Minus = refl
 
 -- Letters that were read are written as the bytes, and are as many.
-module _ (cs : List ℕ) (s : List Letter) (e : read_each read_letter cs ≡ some s) where
+module _ (cs : List ℕ) (s : List Letter) (e : read_each read_letter cs ≡ Some s) where
   letters-written : cs ≡ map letter_byte s
   unfolding read_letter
   letters-written = each-written letter_byte read_letter (read_byte-byte letter_byte _) cs e
@@ -95,35 +98,35 @@ module _ (cs : List ℕ) (s : List Letter) (e : read_each read_letter cs ≡ som
   pub letters-count : length s ≡ length cs
   letters-count = rw letters-written (sym (length-map s letter_byte))
 
-letter-read : (l : Letter) → read_letter (letter_byte l) ≡ some l
+letter-read : (l : Letter) → read_letter (letter_byte l) ≡ Some l
 unfolding read_letter read_byte first_of
 letter-read I = refl
 letter-read X = refl
 letter-read Y = refl
 letter-read Z = refl
 
-letters-read : (ls : List Letter) → read_each read_letter (map letter_byte ls) ≡ some ls
+letters-read : (ls : List Letter) → read_each read_letter (map letter_byte ls) ≡ Some ls
 letters-read = each_read letter_byte read_letter letter-read
 
 -- ---- numbers
 
-pub digit-written : (c d : ℕ) → read_digit c ≡ some d → (d < 10) × (c ≡ code "0" + d)
+pub digit-written : (c d : ℕ) → read_digit c ≡ Some d → (d < 10) × (c ≡ code "0" + d)
 unfolding read_digit
 digit-written c d e = go (between (code "0") (code "9") c) refl
   where
     go : (t : Bool) → between (code "0") (code "9") c ≡ t → (d < 10) × (c ≡ code "0" + d)
     go true p =
-        let q : some (c - code "0") ≡ some d = rw (p, read_digit) at e in
+        let q : Some (c - code "0") ≡ Some d = rw (p, read_digit) at e in
         let value : c - code "0" ≡ d = cc in
         omega (arith, between-bounds (code "0") (code "9") c p)
-    go false p = absurd (none-ne-some d (rw (p, read_digit) at e))
+    go false p = absurd (none-some d (rw (p, read_digit) at e))
 
-digit-read : (m : ℕ) → m < 10 → read_digit (code "0" + m) ≡ some m
+digit-read : (m : ℕ) → m < 10 → read_digit (code "0" + m) ≡ Some m
 unfolding read_digit
-digit-read m h = rw (bounds-between 48 57 (48 + m) (omega arith) (omega arith)) (ap some (omega arith))
+digit-read m h = rw (bounds-between 48 57 (48 + m) (omega arith) (omega arith)) (ap Some (omega arith))
 
 -- The digits of the number so far, and those that follow.
-digits-follow : {cs ds : List ℕ} (m : ℕ) → 0 < m → Forall₂ (λ c d. read_digit c ≡ some d) cs ds
+digits-follow : {cs ds : List ℕ} (m : ℕ) → 0 < m → Forall₂ (λ c d. read_digit c ≡ Some d) cs ds
     → decimal m ++ cs ≡ decimal (foldl (λ m e. m * 10 + e) m ds)
 digits-follow m h Forall₂.nil = append-nil (decimal m)
 digits-follow m h (Forall₂.cons {a = c} {b = d} {l₁ = cs} e es) =
@@ -134,39 +137,39 @@ digits-follow m h (Forall₂.cons {a = c} {b = d} {l₁ = cs} e es) =
     decimal-snoc (m * 10 + d) (omega arith) ∙ rw (tenth, last) in
     sym (rw step (append_snoc (decimal m) c cs)) ∙ digits-follow (m * 10 + d) (omega arith) es
 
-pub number-written : (cs : List ℕ) (m : ℕ) → read_number cs ≡ some m → cs ≡ decimal m
+pub number-written : (cs : List ℕ) (m : ℕ) → read_number cs ≡ Some m → cs ≡ decimal m
 unfolding read_number number_of
 number-written cs m e =
-    let b = (bind-eq-some_iff (read_each read_digit cs) number_of).0 e in
+    let b = bind-some (read_each read_digit cs) number_of e in
     go (read_each-each read_digit cs b.1) b.2
   where
-    go : {cs ds : List ℕ} → Forall₂ (λ c d. read_digit c ≡ some d) cs ds → number_of ds ≡ some m → cs ≡ decimal m
-    go Forall₂.nil e = absurd (none-ne-some m e)
-    go (Forall₂.cons {b = zero} h hs) e = absurd (none-ne-some m e)
+    go : {cs ds : List ℕ} → Forall₂ (λ c d. read_digit c ≡ Some d) cs ds → number_of ds ≡ Some m → cs ≡ decimal m
+    go Forall₂.nil e = absurd (none-some m e)
+    go (Forall₂.cons {b = zero} h hs) e = absurd (none-some m e)
     go (Forall₂.cons {a = c} {b = suc d} {l₂ = ds} h hs) e =
         let r = digit-written c (suc d) h in
         let first : decimal (suc d) ≡ c ∷ [] = decimal-one (suc d) r.0 ∙ rw r.1 in
         rw first at (digits-follow (suc d) (omega arith) hs) ∙ cc
 
-pub number-from : (d : ℕ) (ds : List ℕ) → 1 ≤ d → number_of (d ∷ ds) ≡ some (foldl (λ m e. m * 10 + e) d ds)
+pub number-from : (d : ℕ) (ds : List ℕ) → 1 ≤ d → number_of (d ∷ ds) ≡ Some (foldl (λ m e. m * 10 + e) d ds)
 unfolding number_of
 number-from zero ds h = absurd (omega arith)
 number-from (suc d) ds h = refl
 
-pub number_read : (m : ℕ) → 1 ≤ m → m < 100 → read_number (decimal m) ≡ some m
+pub number_read : (m : ℕ) → 1 ≤ m → m < 100 → read_number (decimal m) ≡ Some m
 unfolding read_number read_each bind
-number_read m low high = by_digits (λ s. read_number s ≡ some m) m high one two
+number_read m low high = by_digits (λ s. read_number s ≡ Some m) m high one two
   where
-    one : m < 10 → read_number ((code "0" + m) ∷ []) ≡ some m
+    one : m < 10 → read_number ((code "0" + m) ∷ []) ≡ Some m
     one h = rw (digit-read m h, number-from m [] low)
 
-    two : 10 ≤ m → read_number ((code "0" + m / 10) ∷ (code "0" + m % 10) ∷ []) ≡ some m
+    two : 10 ≤ m → read_number ((code "0" + m / 10) ∷ (code "0" + m % 10) ∷ []) ≡ Some m
     two h =
         rw (
           digit-read (m / 10) (omega arith),
           digit-read (m % 10) (omega arith),
           number-from (m / 10) (m % 10 ∷ []) (omega arith),
-        ) (ap some (omega arith))
+        ) (ap Some (omega arith))
 
 -- ---- rows
 
@@ -196,21 +199,21 @@ letters-are-claim : (s : List Letter) → Claim (length s) (of_letters s)
 unfolding is_claim of_letters
 letters-are-claim s = record { claim = rw (signed-on-qubits, row-has-sign); phase = signed-modulo4 Plus s }
 
-letter_text-written : (cs : List ℕ) (sign : Sign) (s : List Letter) → read_each read_letter cs ≡ some s
+letter_text-written : (cs : List ℕ) (sign : Sign) (s : List Letter) → read_each read_letter cs ≡ Some s
     → cs ≡ letter_text (length cs) (signed_row sign s)
 unfolding letter_text
 letter_text-written cs sign s e = rw (← letters-count cs s e, letters-return) (letters-written cs s e)
 
-pub row_written : (n : ℕ) (v : List ℕ) (P : Pauli) → length v ≡ n + 1 → read_row v ≡ some P
+pub row_written : (n : ℕ) (v : List ℕ) (P : Pauli) → length v ≡ n + 1 → read_row v ≡ Some P
     → Row n P × (v ≡ row_text n P)
 unfolding read_row row_text
-row_written n [] P h e = absurd (none-ne-some P e)
+row_written n [] P h e = absurd (none-some P e)
 row_written n (c ∷ cs) P h e =
-    let b = (bind-eq-some_iff (read_sign c) (λ s. Option.map (signed_row s) (read_each read_letter cs))).0 e in
-    let m = (map-eq-some_iff (signed_row b.0) (read_each read_letter cs)).0 b.2 in
+    let b = bind-some (read_sign c) (λ s. option_map (signed_row s) (read_each read_letter cs)) e in
+    let m = map-some (signed_row b.0) (read_each read_letter cs) b.2 in
     go b.0 m.0 b.1 m.1 m.2
   where
-    go : (sign : Sign) (s : List Letter) → read_sign c ≡ some sign → read_each read_letter cs ≡ some s
+    go : (sign : Sign) (s : List Letter) → read_sign c ≡ Some sign → read_each read_letter cs ≡ Some s
         → signed_row sign s ≡ P → Row n P × (c ∷ cs ≡ row_text n P)
     go sign s ec es eP =
         let width : length cs ≡ n = omega arith in
@@ -219,14 +222,14 @@ row_written n (c ∷ cs) P h e =
           rw sign-returns (ap₂ ◌∷◌ (sign-written c sign ec) (letter_text-written cs sign s es)),
         )
 
-pub claim-written : (n : ℕ) (v : List ℕ) (P : Pauli) → length v ≡ n → read_letters v ≡ some P
+pub claim-written : (n : ℕ) (v : List ℕ) (P : Pauli) → length v ≡ n → read_letters v ≡ Some P
     → Claim n P × (v ≡ letter_text n P)
 unfolding read_letters of_letters
 claim-written n v P h e =
-    let m = (map-eq-some_iff of_letters (read_each read_letter v)).0 e in
+    let m = map-some of_letters (read_each read_letter v) e in
     go m.0 m.1 m.2
   where
-    go : (s : List Letter) → read_each read_letter v ≡ some s → of_letters s ≡ P → Claim n P × (v ≡ letter_text n P)
+    go : (s : List Letter) → read_each read_letter v ≡ Some s → of_letters s ≡ P → Claim n P × (v ≡ letter_text n P)
     go s es eP = rw (← eP, ← h) (rw (← letters-count v s es) (letters-are-claim s), letter_text-written v Plus s es)
 
 row-letters : (n : ℕ) (P : Pauli) → is_row n P ≡ true → signed_row (sign_of P) (letters_of n P) ≡ modulo4 P
@@ -243,10 +246,10 @@ claim-letters n P h =
     let masks = on-qubits n P b.0 in
     rw (b.1, sign_of) at (row-returns n P masks.0 masks.1 (rw b.1))
 
-pub row_read : (n : ℕ) (P : Pauli) → is_row n P ≡ true → read_row (row_text n P) ≡ some (modulo4 P)
+pub row_read : (n : ℕ) (P : Pauli) → is_row n P ≡ true → read_row (row_text n P) ≡ Some (modulo4 P)
 unfolding read_row row_text letter_text bind
 row_read n P h = rw (sign_read (sign_of P), letters-read (letters_of n P), row-letters n P h)
 
-pub claim-read : (n : ℕ) (P : Pauli) → is_claim n P ≡ true → read_letters (letter_text n P) ≡ some (modulo4 P)
+pub claim-read : (n : ℕ) (P : Pauli) → is_claim n P ≡ true → read_letters (letter_text n P) ≡ Some (modulo4 P)
 unfolding read_letters letter_text
 claim-read n P h = rw (letters-read (letters_of n P), claim-letters n P h)

@@ -1,7 +1,7 @@
 -- Every definition of this layer and of those below it that computes, to be unfolded at once where an example is
 -- computed: a proof that says `unfolding definitions` unfolds all that is named below.
+use Rattle.letters.specs.Options.{bind}
 use Rattle.code_record.specs.Definitions.{definitions as definitions-record}
-use Rattle.std.proofs.Math.Option.{bind}
 use Rattle.sheet.specs.Text.{line_feed, line, digits_of, decimal, laid, untouched, guarded, room_fault, written}
 use Rattle.sheet.specs.Reader.{done, continue, begins, read_each, got_or, is_line, line_of, read_digit, number_of}
 use Rattle.sheet.specs.Reader.{read_number, read_letters, read_row, in_range, qubit_digits, qubit_line, distance_line}

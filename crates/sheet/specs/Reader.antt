@@ -1,10 +1,12 @@
 -- The sheet as a function from bytes to an answer.
 -- RULES, "The sheet": the reader of each line gets what is behind the line feed of the line before. A line off its form
 -- ends the reading, and so does input that ends before a line feed.
+use Rattle.std.specs.Prelude.{Option, Some, None, Result, Ok, Err}
+use Rattle.std.specs.Option.{option_map}
+use Rattle.letters.specs.Options.{bind}
 use Rattle.std.specs.Prelude.{Bool, true, false, cond, ◌&&◌, ◌||◌, ℕ, zero, suc, ◌+◌, ◌-◌, ◌*◌, eqb, ltb, length, take}
 use Rattle.std.specs.Prelude.{drop, get_or}
 use mathlib.Core.List.{List, [], ◌∷◌, foldl}
-use Rattle.std.proofs.Math.Option.{Option, none, some, map, bind}
 use Prim.Native.Char.{code}
 use Prim.Native.String.{String}
 use Rattle.pauli.specs.declared.Pauli.{Pauli}
@@ -13,7 +15,6 @@ use Rattle.pauli.specs.Letters.{signed_row, of_letters}
 use Rattle.letters.specs.Letters.{read_sign, read_letter}
 use Rattle.code_record.specs.declared.Code.{Code}
 use Rattle.refusals.specs.declared.Refusal.{Refusal}
-use Rattle.refusals.specs.declared.Lines.{Lines}
 use Rattle.code_record.specs.declared.LinesReading.{LinesReading}
 use Rattle.code_record.specs.Record.{between, code_of, empty_beside, pair_count, most_generators, first_generator_at}
 use Rattle.code_record.specs.Record.{most_qubits, most_distance, longest_input}
@@ -46,13 +47,13 @@ begins (p ∷ ps) (c ∷ s) = eqb p c && begins ps s
 
 -- Each byte read by itself; nothing if one of them cannot be.
 unfoldable pub read_each : {A : Type 0} → (ℕ → Option A) → List ℕ → Option (List A)
-read_each read [] = some []
-read_each read (c ∷ cs) = bind (read c) (λ a. map (λ rest. a ∷ rest) (read_each read cs))
+read_each read [] = Some []
+read_each read (c ∷ cs) = bind (read c) (λ a. option_map (λ rest. a ∷ rest) (read_each read cs))
 
 -- A value and the rest of the bytes, or the refusal where there is no value.
 unfoldable pub got_or : {A : Type 0} → Refusal → Option A → List ℕ → Parsed A
-got_or refusal none rest = stop refusal
-got_or refusal (some a) rest = got a rest
+got_or refusal None rest = stop refusal
+got_or refusal (Some a) rest = got a rest
 
 -- RULES, "The sheet": a line is a key, a value and a line feed. The bytes begin with the key, and behind m more is a
 -- line feed.
@@ -69,12 +70,12 @@ abbrev pub read_line : {A : Type 0} → String → ℕ → (List ℕ → Option 
 read_line key = line_of (bytes key)
 
 unfoldable pub read_digit : ℕ → Option ℕ
-read_digit c = cond (between (code "0") (code "9") c) (some (c - code "0")) none
+read_digit c = cond (between (code "0") (code "9") c) (Some (c - code "0")) None
 
 unfoldable pub number_of : List ℕ → Option ℕ
-number_of [] = none
-number_of (zero ∷ ds) = none
-number_of (suc d ∷ ds) = some (foldl (λ m e. m * 10 + e) (suc d) ds)
+number_of [] = None
+number_of (zero ∷ ds) = None
+number_of (suc d ∷ ds) = Some (foldl (λ m e. m * 10 + e) (suc d) ds)
 
 -- A number, the first digit not 0.
 unfoldable pub read_number : List ℕ → Option ℕ
@@ -82,12 +83,12 @@ read_number cs = bind (read_each read_digit cs) number_of
 
 -- Letters, with no sign: a row with sign +.
 unfoldable pub read_letters : List ℕ → Option Pauli
-read_letters cs = map of_letters (read_each read_letter cs)
+read_letters cs = option_map of_letters (read_each read_letter cs)
 
 -- A sign, then letters.
 unfoldable pub read_row : List ℕ → Option Pauli
-read_row [] = none
-read_row (c ∷ cs) = bind (read_sign c) (λ s. map (signed_row s) (read_each read_letter cs))
+read_row [] = None
+read_row (c ∷ cs) = bind (read_sign c) (λ s. option_map (signed_row s) (read_each read_letter cs))
 
 unfoldable pub in_range : ℕ → ℕ → Refusal → ℕ → Reader ℕ
 in_range low high refusal m = cond (between low high m) (done m) (λ s. stop refusal)
@@ -177,8 +178,8 @@ read_form = read_lines and_then nothing_behind
 -- record.
 unfoldable pub answered : List ℕ → Parsed SheetRead → LinesReading
 answered s (got q rest) =
-    record { answer = Lines.Read (length s - length rest); claim_at = q.claim_at; code = q.code }
-answered s (stop refusal) = empty_beside (Lines.Refused refusal)
+    record { answer = Ok (length s - length rest); claim_at = q.claim_at; code = q.code }
+answered s (stop refusal) = empty_beside (Err refusal)
 
 -- The call on the lines of a sheet, with anything behind them, as a report reads it; and on a sheet by itself.
 unfoldable pub lines_reading : List ℕ → LinesReading
@@ -188,6 +189,6 @@ unfoldable pub form_reading : List ℕ → LinesReading
 form_reading s = answered s (read_form s)
 
 -- RULES, "The report": what a report goes on with, the bytes behind the lines; none where these were refused.
-unfoldable pub behind : List ℕ → Lines → List ℕ
-behind s (Lines.Read used) = drop used s
-behind s (Lines.Refused refusal) = []
+unfoldable pub behind : List ℕ → Result ℕ Refusal → List ℕ
+behind s (Ok used) = drop used s
+behind s (Err refusal) = []

@@ -1,7 +1,7 @@
 -- The sheets A to L (Edges) with their answers, as one table. The crate `reporting` proves every entry from the
 -- definitions.
+use Rattle.std.specs.Prelude.{Option, Some, None}
 use Rattle.std.specs.Prelude.{List, [], ◌∷◌}
-use Rattle.std.proofs.Math.Option.{Option, none, some}
 use Prim.Native.String.{String}
 use Rattle.letters.specs.declared.Letter.TheVariants.{I, X, Y}
 use Rattle.pauli.specs.Letters.{of_letters}
@@ -19,11 +19,11 @@ pub record Entry : Type 0 where
   pub report : String
 
 abbrev pub admitted : (sheet behind report : String) → Entry
-admitted sheet behind report = record { sheet = sheet; refusal = none; behind = behind; report = report }
+admitted sheet behind report = record { sheet = sheet; refusal = None; behind = behind; report = report }
 
 abbrev pub refused : (sheet behind : String) → Refusal → (report : String) → Entry
 refused sheet behind refusal report =
-    record { sheet = sheet; refusal = some refusal; behind = behind; report = report }
+    record { sheet = sheet; refusal = Some refusal; behind = behind; report = report }
 
 -- The two `s=` lines of A, which the sheets that differ from A in one value keep.
 unfoldable pub syndromes_a : String

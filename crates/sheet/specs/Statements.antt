@@ -1,13 +1,14 @@
 -- What is stated of the reader and the writer together.
+use Rattle.std.specs.Prelude.{Option, Some}
+use Rattle.std.specs.Result.{result_err}
 use Rattle.std.specs.Prelude.{true, List, [], ◌∷◌, ◌++◌, map, ◌≡◌, ℕ, ◌≤◌, eqb, length}
-use Rattle.std.proofs.Math.Option.{Option, some}
 use Rattle.letters.specs.Lists.{any_of}
 use Rattle.pauli.specs.Product.{modulo4}
 use Rattle.code_record.specs.declared.Code.{Code}
 use Rattle.refusals.specs.declared.Refusal.{Refusal}
 use Rattle.code_record.specs.Record.{most_qubits, longest_input, Sized}
 use Rattle.code_record.specs.Record.{within_limits, claim_at}
-use Rattle.refusals.specs.Refusals.{values, lines_refusal, written_refusal}
+use Rattle.refusals.specs.Refusals.{values}
 use Rattle.sheet.specs.Reader.{SheetRead, got, read_form, read_lines, lines_reading, form_reading, behind}
 use Rattle.sheet.specs.Text.{After}
 use Rattle.sheet.specs.Writer.{sheet_text, write_sheet}
@@ -67,10 +68,10 @@ pub record LongestSheet : Type 0 where
 
 -- RULES, "Calls and buffers": where the answer of a call carries a refusal, the buffer is what it was.
 pub record RefusalLeaves {A : Type 0} (carried : A → Option Refusal) (buffer : List ℕ) (after : After A) : Type 0 where
-  pub unchanged : (refusal : Refusal) → carried after.answer ≡ some refusal → after.buffer ≡ buffer
+  pub unchanged : (refusal : Refusal) → carried after.answer ≡ Some refusal → after.buffer ≡ buffer
 
 abbrev pub WriterRefusalsLeave : Type 0
-WriterRefusalsLeave = (c : Code) (buffer : List ℕ) → RefusalLeaves written_refusal buffer (write_sheet c buffer)
+WriterRefusalsLeave = (c : Code) (buffer : List ℕ) → RefusalLeaves result_err buffer (write_sheet c buffer)
 
 -- ---- the numbers
 
@@ -80,9 +81,9 @@ Among numbers refusal = any_of (eqb (values refusal).number) numbers ≡ true
 
 -- The numbers with which the reader of the lines, the reader of a sheet by itself and the writer refuse.
 pub record SheetRefusalNumbers : Type 0 where
-  pub lines : (s : List ℕ) (refusal : Refusal) → lines_refusal (lines_reading s).answer ≡ some refusal
+  pub lines : (s : List ℕ) (refusal : Refusal) → result_err (lines_reading s).answer ≡ Some refusal
       → Among (1 ∷ 2 ∷ 3 ∷ 4 ∷ 5 ∷ []) refusal
-  pub alone : (s : List ℕ) (refusal : Refusal) → lines_refusal (form_reading s).answer ≡ some refusal
+  pub alone : (s : List ℕ) (refusal : Refusal) → result_err (form_reading s).answer ≡ Some refusal
       → Among (1 ∷ 2 ∷ 3 ∷ 4 ∷ 5 ∷ []) refusal
   pub writer : (c : Code) (buffer : List ℕ) (refusal : Refusal)
-      → written_refusal (write_sheet c buffer).answer ≡ some refusal → Among (15 ∷ 17 ∷ []) refusal
+      → result_err (write_sheet c buffer).answer ≡ Some refusal → Among (15 ∷ 17 ∷ []) refusal

@@ -1,11 +1,10 @@
 -- Texts: lines and numbers, and what an output buffer holds after a call.
+use Rattle.std.specs.Prelude.{Option, Some, None, Result, Ok, Err}
 use Rattle.std.specs.Prelude.{true, false, List, [], ◌∷◌, ◌++◌, ℕ, zero, suc, ◌+◌, ◌/◌, ◌%◌, ltb, length, drop}
-use Rattle.std.proofs.Math.Option.{Option, none, some}
 use Prim.Native.Char.{code}
 use Prim.Native.String.{String}
 use Rattle.letters.specs.Lists.{bytes}
 use Rattle.refusals.specs.declared.Refusal.{Refusal}
-use Rattle.refusals.specs.declared.Written.{Written}
 use Rattle.refusals.specs.Refusals.{refuse_if, ◌then◌}
 
 -- RULES, "The sheet": a line is a key, a value and a line feed.
@@ -40,8 +39,8 @@ untouched answer buffer = record { answer = answer; buffer = buffer }
 -- A call that is lent a buffer. The first fault of its checks is its answer, and the buffer stays; where there is none,
 -- the call has its own answer.
 unfoldable pub guarded : {A : Type 0} → (Refusal → A) → Option Refusal → List ℕ → After A → After A
-guarded refused none buffer after = after
-guarded refused (some refusal) buffer after = untouched (refused refusal) buffer
+guarded refused None buffer after = after
+guarded refused (Some refusal) buffer after = untouched (refused refusal) buffer
 
 -- RULES, "Refusals": 17, where the buffer is shorter than the answer, which has m bytes.
 unfoldable pub room_fault : ℕ → List ℕ → Option Refusal
@@ -49,7 +48,7 @@ room_fault m buffer = refuse_if (ltb (length buffer) m) Refusal.ShortBuffer
 
 -- RULES, "Calls and buffers": a call that writes a text tries 17 behind its other checks, and answers with the count of
 -- bytes.
-unfoldable pub written : Option Refusal → List ℕ → List ℕ → After Written
+unfoldable pub written : Option Refusal → List ℕ → List ℕ → After (Result ℕ Refusal)
 written fault text buffer =
-    guarded Written.Refused (fault then room_fault (length text) buffer) buffer
-    (record { answer = Written.Count (length text); buffer = laid text buffer })
+    guarded Err (fault then room_fault (length text) buffer) buffer
+    (record { answer = Ok (length text); buffer = laid text buffer })

@@ -1,10 +1,10 @@
 -- A sheet by itself: what the bytes behind its lines make of the reading.
+use Rattle.std.specs.Prelude.{Ok, Err}
 use mathlib.Core.List.{List, [], ◌∷◌}
 use mathlib.Core.Path.{◌≡◌, refl, ap}
 use Prim.Native.Nat.{ℕ, suc, ◌+◌, ◌-◌, ◌<◌, ◌≤◌}
 use native.Mathlib.Omega.{arith}
 use lib.ListN.{length}
-use Rattle.refusals.specs.declared.Lines.{Lines}
 use Rattle.code_record.specs.declared.LinesReading.{LinesReading}
 use Rattle.refusals.specs.declared.Refusal.{Refusal}
 use Rattle.code_record.specs.Record.{pair_count, logical_count, generators_at, logicals_at, claim_at, empty_beside}
@@ -24,19 +24,19 @@ claim-near s (stop refusal) lawful = omega arith
 
 module _ (s : List ℕ) (reading : LinesReading) where
   pub form-refused : {refusal : Refusal} (p : Parsed SheetRead) → reading ≡ answered s p
-      → reading.answer ≡ Lines.Refused refusal
+      → reading.answer ≡ Err refusal
       → reading ≡ answered s (continue p nothing_behind)
   unfolding answered continue
   form-refused (got q rest) e a = absurd (let z : ◌≡◌ {A = ℕ} 0 1 = cc (ap (λ x. x.answer) e) in omega arith)
   form-refused (stop refusal) e a = e
 
-  module _ {used : ℕ} (a : reading.answer ≡ Lines.Read used) where
+  module _ {used : ℕ} (a : reading.answer ≡ Ok used) where
     pub form-behind : (p : Parsed SheetRead) → reading ≡ answered s p → used < length s
-        → empty_beside (Lines.Refused (Refusal.Form (reading.claim_at + 1))) ≡ answered s (continue p nothing_behind)
+        → empty_beside (Err (Refusal.Form (reading.claim_at + 1))) ≡ answered s (continue p nothing_behind)
     unfolding answered continue nothing_behind
     form-behind (got q []) e h = let z : used ≡ length s - 0 = cc (ap (λ x. x.answer) e) in absurd (omega arith)
     form-behind (got q (b ∷ rest)) e h =
-        ap (λ m. empty_beside (Lines.Refused (Refusal.Form (m + 1)))) (ap (λ x. x.claim_at) e)
+        ap (λ m. empty_beside (Err (Refusal.Form (m + 1)))) (ap (λ x. x.claim_at) e)
     form-behind (stop refusal) e h = absurd (let z : ◌≡◌ {A = ℕ} 0 1 = cc (ap (λ x. x.answer) e) in omega arith)
 
     pub form-whole : (p : Parsed SheetRead) → reading ≡ answered s p → length s ≤ used

@@ -5,15 +5,14 @@ ghost use Rattle.std.specs.Prelude.{◌≡◌};
 ghost use Rattle.sheet.specs.Reader.{form_reading, behind};
 
 use code_record::LinesReading;
-use refusals::Lines;
+use refusals::Refusal;
 
 // A sheet by itself, with nothing behind w.
 pub fn read_form(s: &[u8]) -> LinesReading
     ensures { result ≡ form_reading s.now }
 {
     let reading = reader::read_lines(s);
-    let answer = reading.answer;
-    let Lines::Read { used } = answer else {
+    let Ok(used) = reading.answer else {
         return reading;
     };
     if used < s.len() {
@@ -23,15 +22,12 @@ pub fn read_form(s: &[u8]) -> LinesReading
 }
 
 // The part of s that is behind the lines; no bytes where they were refused.
-pub fn behind(s: &[u8], answer: Lines) -> &[u8]
+pub fn behind(s: &[u8], answer: Result<usize, Refusal>) -> &[u8]
     ensures { result.now ≡ behind s.now answer }
 {
     let end = s.len();
-    let Lines::Read { used } = answer else {
+    let Ok(used) = answer else {
         return &s[end..];
     };
-    if used < end {
-        return &s[used..];
-    }
-    &s[end..]
+    &s[used.min(end)..]
 }

@@ -1,5 +1,6 @@
 -- The reading of a sheet by what its form and its checks answered. A record that was read is within limits, so that the
 -- checks do not begin with 15.
+use Rattle.std.specs.Prelude.{Ok, Err}
 use mathlib.Core.Bool.{true}
 use mathlib.Core.List.{List, []}
 use mathlib.Core.Path.{◌≡◌, refl, ap, ap₂, sym, ◌∙◌}
@@ -9,7 +10,6 @@ use lib.ListN.{length, length-drop}
 use Rattle.code_record.specs.declared.LinesReading.{LinesReading}
 use Rattle.code_record.specs.Record.{limits_fault, within_limits}
 use Rattle.code_record.proofs.Limits.{within-later}
-use Rattle.refusals.specs.declared.Lines.{Lines}
 use Rattle.refusals.specs.declared.Refusal.{Refusal}
 use Rattle.refusals.specs.Refusals.{◌then◌}
 use Rattle.code_record.specs.Record.{empty_beside}
@@ -26,13 +26,13 @@ pub read-within : (s : List ℕ) (q : SheetRead) (rest : List ℕ) → read_form
 read-within s q rest form = (reads-are-lawful s q [] (form-has-nothing-behind s q rest form)).limits
 
 module _ (s : List ℕ) (form : LinesReading) where
-  refused-by : (p : Parsed SheetRead) {refusal : Refusal} → form ≡ answered s p → form.answer ≡ Lines.Refused refusal
+  refused-by : (p : Parsed SheetRead) {refusal : Refusal} → form ≡ answered s p → form.answer ≡ Err refusal
       → refused_reading refusal ≡ checked p
   unfolding answered checked
   refused-by (got q rest) e told = absurd (let z : ◌≡◌ {A = ℕ} 0 1 = cc (ap (λ x. x.answer) e) in omega arith)
   refused-by (stop refusal) e told = ap refused_reading (cc (ap (λ x. x.answer) e))
 
-  decided-by : (p : Parsed SheetRead) {used : ℕ} → form ≡ answered s p → form.answer ≡ Lines.Read used
+  decided-by : (p : Parsed SheetRead) {used : ℕ} → form ≡ answered s p → form.answer ≡ Ok used
       → ((q : SheetRead) (rest : List ℕ) → p ≡ got q rest → within_limits q.code ≡ true)
       → reading_of form.code (limits_fault form.code then code_fault form.claim_at form.code) ≡ checked p
   unfolding answered checked
@@ -44,7 +44,7 @@ module _ (s : List ℕ) (form : LinesReading) where
   decided-by (stop refusal) e told within =
       absurd (let z : ◌≡◌ {A = ℕ} 0 1 = cc (ap (λ x. x.answer) e) in omega arith)
 
-  within_by : (p : Parsed SheetRead) {used : ℕ} → form ≡ answered s p → form.answer ≡ Lines.Read used
+  within_by : (p : Parsed SheetRead) {used : ℕ} → form ≡ answered s p → form.answer ≡ Ok used
       → ((q : SheetRead) (rest : List ℕ) → p ≡ got q rest → within_limits q.code ≡ true)
       → within_limits form.code ≡ true
   unfolding answered
@@ -53,17 +53,17 @@ module _ (s : List ℕ) (form : LinesReading) where
       absurd (let z : ◌≡◌ {A = ℕ} 0 1 = cc (ap (λ x. x.answer) e) in omega arith)
 
   module _ (known : form ≡ form_reading s) where
-    pub form-refused : {refusal : Refusal} → form.answer ≡ Lines.Refused refusal
+    pub form-refused : {refusal : Refusal} → form.answer ≡ Err refusal
         → refused_reading refusal ≡ read_sheet s
     unfolding form_reading read_sheet
     form-refused told = refused-by (read_form s) known told
 
-    pub checks-decide : {used : ℕ} → form.answer ≡ Lines.Read used
+    pub checks-decide : {used : ℕ} → form.answer ≡ Ok used
         → reading_of form.code (limits_fault form.code then code_fault form.claim_at form.code) ≡ read_sheet s
     unfolding form_reading read_sheet
     checks-decide told = decided-by (read_form s) known told (read-within s)
 
-    pub form-within : {used : ℕ} → form.answer ≡ Lines.Read used → within_limits form.code ≡ true
+    pub form-within : {used : ℕ} → form.answer ≡ Ok used → within_limits form.code ≡ true
     unfolding form_reading
     form-within told = within_by (read_form s) known told (read-within s)
 
@@ -77,12 +77,12 @@ module _ (s : List ℕ) (reading : LinesReading) (known : reading ≡ lines_read
   pub claim-small : reading.claim_at < 100
   claim-small = omega (arith, ap (λ x. x.claim_at) is_read, claim-near s (read_lines s) (reads-are-lawful s))
 
-  pub lines-refused : {refusal : Refusal} → reading.answer ≡ Lines.Refused refusal
+  pub lines-refused : {refusal : Refusal} → reading.answer ≡ Err refusal
       → refused_reading refusal ≡ read_sheet s
   unfolding form_reading read_form
   lines-refused told = form-refused s reading (refused-form s reading (read_lines s) is_read told) told
 
-  module _ {used : ℕ} (told : reading.answer ≡ Lines.Read used) where
+  module _ {used : ℕ} (told : reading.answer ≡ Ok used) where
     left : length (behind s reading.answer) ≡ length s - used
     unfolding behind
     left = ap (λ a. length (behind s a)) told ∙ length-drop used s
@@ -92,7 +92,7 @@ module _ (s : List ℕ) (reading : LinesReading) (known : reading ≡ lines_read
     unfolding form_reading read_form
     bytes-behind some =
         let fewer : used < length s = omega (arith, left) in
-        form-refused s (empty_beside (Lines.Refused (Refusal.Form (reading.claim_at + 1))))
+        form-refused s (empty_beside (Err (Refusal.Form (reading.claim_at + 1))))
         (form-behind s reading told (read_lines s) is_read fewer) refl
 
     pub nothing-behind : length (behind s reading.answer) ≤ 0 → reading ≡ form_reading s

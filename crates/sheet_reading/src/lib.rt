@@ -6,11 +6,11 @@ ghost use Rattle.code_record.specs.Record.{within_limits, limits_fault};
 ghost use Rattle.refusals.specs.Refusals.{◌then◌};
 ghost use Rattle.admission.specs.Admission.{code_fault, refused_reading, reading_of, read_sheet};
 
-use admission::{Admission, Reading};
+use admission::Reading;
 use code_checks::check_read;
 use code_record::Code;
 use reader::read_lines;
-use refusals::{Checked, Lines, Refusal};
+use refusals::Refusal;
 use sheet_end::behind;
 
 // Beside a refusal stands the empty record.
@@ -18,7 +18,7 @@ fn refused(refusal: Refusal) -> Reading
     ensures { result ≡ refused_reading refusal }
 {
     Reading {
-        answer: Admission::Refused(refusal),
+        answer: Err(refusal),
         code: Code::empty(),
     }
 }
@@ -29,11 +29,11 @@ fn judged(code: Code, at: usize) -> Reading
     ensures { result ≡ reading_of code (limits_fault code then code_fault at code) }
 {
     match check_read(code, at) {
-        Checked::Passed => Reading {
-            answer: Admission::Admitted,
+        Ok(()) => Reading {
+            answer: Ok(()),
             code,
         },
-        Checked::Refused(refusal) => refused(refusal),
+        Err(refusal) => refused(refusal),
     }
 }
 
@@ -44,12 +44,11 @@ pub fn read_sheet(s: &[u8]) -> Reading
 {
     let reading = read_lines(s);
     let lines = reading.answer;
-    if let Lines::Refused(refusal) = lines {
+    if let Err(refusal) = lines {
         return refused(refusal);
     }
     if 0 < behind(s, lines).len() {
         return refused(Refusal::Form(reading.claim_at + 1));
     }
-    let code = reading.code;
-    judged(code, reading.claim_at)
+    judged(reading.code, reading.claim_at)
 }

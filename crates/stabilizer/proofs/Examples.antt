@@ -1,8 +1,9 @@
 -- The group's checks, members with their signs, and canonical generators of small row lists, and the call on records,
 -- computed.
+use Rattle.std.specs.Option.{unwrap_or}
+use Rattle.std.specs.Prelude.{Option, Some, None, Ok, Err}
 use mathlib.Core.Bool.{true, false}
 use mathlib.Core.List.{List, [], ◌∷◌, map}
-use mathlib.Core.Option.{Option, none, some, get_or}
 use mathlib.Core.Path.{◌≡◌, refl}
 use Prim.Native.Nat.{ℕ}
 use Prim.Native.String.{String}
@@ -14,7 +15,6 @@ use Rattle.letters.specs.Lists.{bytes}
 use Rattle.code_record.specs.declared.Code.{Code}
 use Rattle.refusals.specs.declared.Family.{Family}
 use Rattle.refusals.specs.declared.Refusal.{Refusal}
-use Rattle.refusals.specs.declared.Written.{Written}
 use Rattle.code_record.specs.Record.{code_of, generators, first_generator_at}
 use Rattle.sheet.specs.Edges.{eight_qubits, sheet_a}
 use Rattle.sheet.specs.Reader.{read_row, lines_reading}
@@ -26,7 +26,7 @@ use Rattle.stabilizer.specs.Definitions.{definitions}
 
 -- A row as it is written; what is no row becomes -I.
 row : String → Pauli
-row text = get_or (read_row (bytes text)) minus_identity
+row text = unwrap_or (read_row (bytes text)) minus_identity
 
 rows : List String → List Pauli
 unfolding row
@@ -40,35 +40,35 @@ unfolding rows
 fault texts = generator_fault first_generator_at (rows texts)
 
 -- two rows of three qubits that anticommute: 6 at the second
-clash : fault ("+XII" ∷ "+ZII" ∷ []) ≡ some (Refusal.GeneratorsAnticommute 4 Family.Generator)
+clash : fault ("+XII" ∷ "+ZII" ∷ []) ≡ Some (Refusal.GeneratorsAnticommute 4 Family.Generator)
 unfolding fault definitions
 clash = refl
 
 -- sheets I and J: XX times ZZ is -YY
-minus : fault ("+XXII" ∷ "+ZZII" ∷ "+YYII" ∷ []) ≡ some (Refusal.MinusIdentity 5 Family.Generator)
+minus : fault ("+XXII" ∷ "+ZZII" ∷ "+YYII" ∷ []) ≡ Some (Refusal.MinusIdentity 5 Family.Generator)
 unfolding fault definitions
 minus = refl
 
-dependent : fault ("+XXII" ∷ "+ZZII" ∷ "-YYII" ∷ []) ≡ some (Refusal.DependentGenerator 5 Family.Generator)
+dependent : fault ("+XXII" ∷ "+ZZII" ∷ "-YYII" ∷ []) ≡ Some (Refusal.DependentGenerator 5 Family.Generator)
 unfolding fault definitions
 dependent = refl
 
 -- a row +I is a product of no row, and -I is 7
-plus-identity : fault ("+ZZ" ∷ "+II" ∷ []) ≡ some (Refusal.DependentGenerator 4 Family.Generator)
+plus-identity : fault ("+ZZ" ∷ "+II" ∷ []) ≡ Some (Refusal.DependentGenerator 4 Family.Generator)
 unfolding fault definitions
 plus-identity = refl
 
-minus-identity : fault ("-II" ∷ "+ZZ" ∷ []) ≡ some (Refusal.MinusIdentity 3 Family.Generator)
+minus-identity : fault ("-II" ∷ "+ZZ" ∷ []) ≡ Some (Refusal.MinusIdentity 3 Family.Generator)
 unfolding fault definitions
 minus-identity = refl
 
 -- 7 comes before 8: behind -I a row that is -I is both
-minus-first : dependence (rows ("-II" ∷ [])) 4 (row "-II") ≡ some (Refusal.MinusIdentity 4 Family.Generator)
+minus-first : dependence (rows ("-II" ∷ [])) 4 (row "-II") ≡ Some (Refusal.MinusIdentity 4 Family.Generator)
 unfolding rows row definitions
 minus-first = refl
 
 -- 6 over all rows comes before 7 and 8
-clash-first : fault ("+ZZI" ∷ "-ZZI" ∷ "+XII" ∷ []) ≡ some (Refusal.GeneratorsAnticommute 5 Family.Generator)
+clash-first : fault ("+ZZI" ∷ "-ZZI" ∷ "+XII" ∷ []) ≡ Some (Refusal.GeneratorsAnticommute 5 Family.Generator)
 unfolding fault definitions
 clash-first = refl
 
@@ -76,7 +76,7 @@ clash-first = refl
 rows_of : String → List Pauli
 rows_of sheet = generators (lines_reading (bytes sheet)).code
 
-eight-qubits-pass : generator_fault first_generator_at (rows_of eight_qubits) ≡ none
+eight-qubits-pass : generator_fault first_generator_at (rows_of eight_qubits) ≡ None
 unfolding rows_of definitions
 eight-qubits-pass = refl
 
@@ -93,12 +93,12 @@ not-member = refl
 
 -- XX times ZZ is -YY, and the sign asked for does not count
 member-signs : map (member_sign (rows ("+XX" ∷ "+ZZ" ∷ []))) (rows ("-ZZ" ∷ "+YY" ∷ "+XI" ∷ []))
-    ≡ some Plus ∷ some Minus ∷ none ∷ []
+    ≡ Some Plus ∷ Some Minus ∷ None ∷ []
 unfolding rows definitions
 member-signs = refl
 
 -- where both signs are a member's, as of rows that 7 refuses, + is taken
-both-signs : member_sign (rows ("-II" ∷ [])) (row "+II") ≡ some Plus
+both-signs : member_sign (rows ("-II" ∷ [])) (row "+II") ≡ Some Plus
 unfolding rows row definitions
 both-signs = refl
 
@@ -148,7 +148,7 @@ record2 generators = code_of 2 1 (rows generators) (rows ("+XX" ∷ [])) (rows (
 
 -- six bytes, and the rest of the buffer stays
 written-six : write_canonical (record2 ("-ZZ" ∷ [])) (bytes "abcdefgh")
-    ≡ record { answer = Written.Count 6; buffer = bytes "h=-ZZ\ngh" }
+    ≡ record { answer = Ok 6; buffer = bytes "h=-ZZ\ngh" }
 unfolding record2 definitions
 written-six = refl
 
@@ -160,32 +160,32 @@ record3 d generators =
 
 written-rows :
     write_canonical (record3 1 ("+XIX" ∷ "+IIX" ∷ [])) (bytes "abcdefghijklmn")
-    ≡ record { answer = Written.Count 14; buffer = bytes "h=+XII\nh=+IIX\n" }
+    ≡ record { answer = Ok 14; buffer = bytes "h=+XII\nh=+IIX\n" }
 unfolding record3 definitions
 written-rows = refl
 
 -- 15 comes before 6
 clash-of-record : group_fault (record3 1 ("+XII" ∷ "+ZII" ∷ []))
-    ≡ some (Refusal.GeneratorsAnticommute 4 Family.Generator)
+    ≡ Some (Refusal.GeneratorsAnticommute 4 Family.Generator)
 unfolding record3 definitions
 clash-of-record = refl
 
-clash-outside : group_fault (record3 8 ("+XII" ∷ "+ZII" ∷ [])) ≡ some Refusal.RecordLimits
+clash-outside : group_fault (record3 8 ("+XII" ∷ "+ZII" ∷ [])) ≡ Some Refusal.RecordLimits
 unfolding record3 definitions
 clash-outside = refl
 
 -- 17, 7 and 15 write nothing; 7 comes before 17, and 15 before 7
 short : write_canonical (record2 ("-ZZ" ∷ [])) (bytes "abcde")
-    ≡ untouched (Written.Refused Refusal.ShortBuffer) (bytes "abcde")
+    ≡ untouched (Err Refusal.ShortBuffer) (bytes "abcde")
 unfolding record2 definitions
 short = refl
 
 faulty :
     write_canonical (record3 1 ("+ZIZ" ∷ "-ZIZ" ∷ [])) (bytes "abc")
-    ≡ untouched (Written.Refused (Refusal.MinusIdentity 4 Family.Generator)) (bytes "abc")
+    ≡ untouched (Err (Refusal.MinusIdentity 4 Family.Generator)) (bytes "abc")
 unfolding record3 definitions
 faulty = refl
 
-outside : write_canonical (record3 8 ("+ZIZ" ∷ "-ZIZ" ∷ [])) [] ≡ untouched (Written.Refused Refusal.RecordLimits) []
+outside : write_canonical (record3 8 ("+ZIZ" ∷ "-ZIZ" ∷ [])) [] ≡ untouched (Err Refusal.RecordLimits) []
 unfolding record3 definitions
 outside = refl

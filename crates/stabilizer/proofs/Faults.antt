@@ -1,11 +1,12 @@
 -- 6 to 8, and the sign of a member, as elimination finds them: the checks by selections, seen from what is left of a
 -- row. That is the row times a member, and the square of a row is I, so the row or its negative is a member exactly
 -- where I or -I is left. Members with the same masks are the same.
+use Rattle.letters.proofs.Options.{some-none}
+use Rattle.std.specs.Prelude.{Option, Some, None}
 use mathlib.Core.Bool.{Bool, true, false, cond, not, ◌&&◌, false≢true, not-eq-not}
 use mathlib.Core.List.{List, [], ◌∷◌, ◌++◌, map, append-nil, append_assoc}
 use mathlib.Core.Logic.Iff
 use mathlib.Core.Logic.{◌↔◌, ◌⊎◌, inl, inr, ⊎_elim}
-use mathlib.Core.Option.{Option, none, some, some-ne-none}
 use mathlib.Core.Path.{◌≡◌, refl, ap, ap₂, sym, subst, ◌∙◌}
 use Prim.Native.Nat.{ℕ, ◌+◌, ◌/◌, ◌%◌}
 use native.Mathlib.Omega.{arith}
@@ -48,29 +49,29 @@ use Rattle.stabilizer.proofs.Tests.{same_tests, any-map}
 unfoldable pub reduced_fault : ℕ → Pauli → Option Refusal
 reduced_fault at Q =
     cond (same_masks Q identity)
-    (some (cond (same_pauli minus_identity Q) (Refusal.MinusIdentity at Family.Generator)
-    (Refusal.DependentGenerator at Family.Generator))) none
+    (Some (cond (same_pauli minus_identity Q) (Refusal.MinusIdentity at Family.Generator)
+    (Refusal.DependentGenerator at Family.Generator))) None
 
 -- The sign that the row + of these masks shows once it is reduced.
 unfoldable pub reduced_sign : Pauli → Option Sign
-reduced_sign Q = cond (same_masks Q identity) (some (cond (same_pauli minus_identity Q) Minus Plus)) none
+reduced_sign Q = cond (same_masks Q identity) (Some (cond (same_pauli minus_identity Q) Minus Plus)) None
 
 -- ---- checks that find nothing
 
-pub nothing_then : (first next : Option Refusal) → (first then next) ≡ none → (first ≡ none) × (next ≡ none)
+pub nothing_then : (first next : Option Refusal) → (first then next) ≡ None → (first ≡ None) × (next ≡ None)
 unfolding ◌then◌
-nothing_then none next h = (refl, h)
-nothing_then (some refusal) next h = absurd (some-ne-none refusal h)
+nothing_then None next h = (refl, h)
+nothing_then (Some refusal) next h = absurd (some-none refusal h)
 
-pub unrefused : (test : Bool) (refusal : Refusal) → refuse_if test refusal ≡ none → test ≡ false
+pub unrefused : (test : Bool) (refusal : Refusal) → refuse_if test refusal ≡ None → test ≡ false
 unfolding refuse_if
-unrefused true refusal h = absurd (some-ne-none refusal h)
+unrefused true refusal h = absurd (some-none refusal h)
 unrefused false refusal h = refl
 
 -- Where a check finds nothing, what each of its steps keeps is kept along all rows.
 kept : (check : List Pauli → ℕ → Pauli → Option Refusal) (Known : List Pauli → Type 0)
-    → ((before : List Pauli) (at : ℕ) (P : Pauli) → check before at P ≡ none → Known before → Known (before ++ P ∷ []))
-    → (before : List Pauli) (at : ℕ) (rows : List Pauli) → first_fault check before at rows ≡ none → Known before
+    → ((before : List Pauli) (at : ℕ) (P : Pauli) → check before at P ≡ None → Known before → Known (before ++ P ∷ []))
+    → (before : List Pauli) (at : ℕ) (rows : List Pauli) → first_fault check before at rows ≡ None → Known before
     → Known (before ++ rows)
 unfolding first_fault
 kept check Known step before at [] h known = rw append-nil known
@@ -81,14 +82,14 @@ kept check Known step before at (P ∷ rows) h known =
 
 -- ---- 6
 
-clash-free : (before : List Pauli) (at : ℕ) (P : Pauli) → clash before at P ≡ none → All (Commute whole P) before
+clash-free : (before : List Pauli) (at : ℕ) (P : Pauli) → clash before at P ≡ None → All (Commute whole P) before
 unfolding clash anticommutes
 clash-free before at P h =
     all_map (λ Q e. (commute-whole P Q).0 (not-false (commutes P Q) e)) before
     (none_of (anticommutes P) before (unrefused _ _ h))
 
 -- Rows that pass 6 commute.
-pub clash-free-commuting : (at : ℕ) (rows : List Pauli) → first_fault clash [] at rows ≡ none → Commuting whole rows
+pub clash-free-commuting : (at : ℕ) (rows : List Pauli) → first_fault clash [] at rows ≡ None → Commuting whole rows
 clash-free-commuting at rows h =
     kept clash (Commuting whole)
     (λ before at P clear c. commuting-more whole before P c (clash-free before at P clear)) [] at rows h tt
@@ -210,7 +211,7 @@ product-tested rows P X square =
     ))
 
 fault-of-tests : (x y : Bool) (minus plus : Refusal)
-    → (refuse_if (x && y) minus then refuse_if (x && not y) plus) ≡ cond x (some (cond y minus plus)) none
+    → (refuse_if (x && y) minus then refuse_if (x && not y) plus) ≡ cond x (Some (cond y minus plus)) None
 unfolding refuse_if ◌then◌
 fault-of-tests true true minus plus = refl
 fault-of-tests true false minus plus = refl
@@ -233,7 +234,7 @@ dependence-reduced n before at P s row =
     ∙ fault-of-tests (same_masks Q identity) (same_pauli minus_identity Q) _ _
 
 -- Rows that pass 6 to 8 are independent.
-pub faultless-independent : (n at : ℕ) (rows : List Pauli) → Rows n rows → generator_fault at rows ≡ none
+pub faultless-independent : (n at : ℕ) (rows : List Pauli) → Rows n rows → generator_fault at rows ≡ None
     → Independent n rows
 unfolding generator_fault reduced_fault refuse_if reduces_to_identity
 faultless-independent n at rows r h =
@@ -242,7 +243,7 @@ faultless-independent n at rows r h =
     (λ before. Rows n before → Commuting whole before → Independent n before) step [] at rows no-dependence
     (λ _ _. independent-none n) r (clash-free-commuting at rows no-clash)
   where
-    step : (before : List Pauli) (at : ℕ) (P : Pauli) → dependence before at P ≡ none
+    step : (before : List Pauli) (at : ℕ) (P : Pauli) → dependence before at P ≡ None
         → (Rows n before → Commuting whole before → Independent n before)
         → Rows n (before ++ P ∷ []) → Commuting whole (before ++ P ∷ []) → Independent n (before ++ P ∷ [])
     step before at P clear known r c =
@@ -286,7 +287,7 @@ row-tested rows sign P Q e =
     (Iff.trans (in_group rows R) (generated-as whole rows R Q e, generated-as whole rows Q R (sym e)))
 
 sign-of-tests : (x y : Bool)
-    → cond (x && not y) (some Plus) (cond (x && y) (some Minus) none) ≡ cond x (some (cond y Minus Plus)) none
+    → cond (x && not y) (Some Plus) (cond (x && y) (Some Minus) None) ≡ cond x (Some (cond y Minus Plus)) None
 sign-of-tests true true = refl
 sign-of-tests true false = refl
 sign-of-tests false y = refl
@@ -299,7 +300,7 @@ member-sign-reduced n rows s P =
     let R = row_of Plus P.a P.b in let Q = reduced n (canonical_generators n rows) R in let signed =
     plus-signed P.a P.b in
     let minus = ap modulo4 (minus-row P.a P.b) in
-    ap₂ (λ plus minus. cond plus (some Plus) (cond minus (some Minus) none))
+    ap₂ (λ plus minus. cond plus (Some Plus) (cond minus (Some Minus) None))
     (same_tests _ _
     (Iff.trans (row-tested rows Plus P (product R identity) (sym (whole.identity-r R)))
     (plus-told n rows s R signed)))

@@ -1,11 +1,11 @@
 -- The statements of the group and of canonical generators that rest on reduction: the laws of what rows generate, said
 -- of members. And the numbers with which the call refuses: each check has its number, and a chain of checks has those
 -- of its parts.
+use Rattle.std.specs.Prelude.{Option, Some, None}
 use mathlib.Core.Bool.{Bool, true, false, cond}
 use mathlib.Core.List.{List, [], ◌∷◌, ◌++◌}
 use mathlib.Core.Logic.Iff
 use mathlib.Core.Logic.{◌↔◌}
-use mathlib.Core.Option.{Option, none, some}
 use mathlib.Core.Path.{◌≡◌, refl}
 use Prim.Native.Nat.{ℕ}
 use Rattle.pauli.specs.declared.Pauli.{Pauli}
@@ -64,7 +64,7 @@ reduction_decides-membership = record {
 
 -- ---- rows that pass 6 to 8
 
-independent : (n at : ℕ) (rows : List Pauli) → all_of (is_row n) rows ≡ true → generator_fault at rows ≡ none
+independent : (n at : ℕ) (rows : List Pauli) → all_of (is_row n) rows ≡ true → generator_fault at rows ≡ None
     → Independent n rows
 independent n at rows are_rows = faultless-independent n at rows ((all-of (is_row n) rows).0 are_rows)
 
@@ -107,20 +107,20 @@ canonical-generators-are-canonical n rows stabilizing =
 -- ---- the sign of a member
 
 sign-found : (plus minus : Bool) → (plus ≡ true → minus ≡ true → ⊥) → let sign : Option Sign =
-    cond plus (some Plus) (cond minus (some Minus) none) in
-    ((sign ≡ some Plus) ↔ (plus ≡ true)) × ((sign ≡ some Minus) ↔ (minus ≡ true))
+    cond plus (Some Plus) (cond minus (Some Minus) None) in
+    ((sign ≡ Some Plus) ↔ (plus ≡ true)) × ((sign ≡ Some Minus) ↔ (minus ≡ true))
 sign-found true true apart = absurd (apart refl refl)
 sign-found true false apart = ((λ h. refl, λ h. refl), (λ h. cc, λ h. cc))
 sign-found false true apart = ((λ h. cc, λ h. cc), (λ h. refl, λ h. refl))
 sign-found false false apart = ((λ h. cc, λ h. cc), (λ h. cc, λ h. cc))
 
-sign-missing : (one minus : Bool) → (cond one (some (cond minus Minus Plus)) none ≡ none) ↔ (one ≡ false)
+sign-missing : (one minus : Bool) → (cond one (Some (cond minus Minus Plus)) None ≡ None) ↔ (one ≡ false)
 sign-missing true minus = (λ h. cc, λ h. cc)
 sign-missing false minus = (λ h. refl, λ h. refl)
 
 -- What is left of the row + has no one exactly where its masks are generated.
 not_in-group : (n : ℕ) (rows : List Pauli) → StabilizerRows n rows → (P : Pauli)
-    → (member_sign rows P ≡ none) ↔ (in_group_up_to_phase rows P ≡ false)
+    → (member_sign rows P ≡ None) ↔ (in_group_up_to_phase rows P ≡ false)
 unfolding reduced_sign reduces_to_identity in_group_up_to_phase same_masks row_of
 not_in-group n rows stabilizing P =
     let R = row_of Plus P.a P.b in
@@ -143,7 +143,7 @@ member-sign-is-decided n rows stabilizing P =
         one-sign n rows (stabilizer n rows stabilizing) P.a P.b ((in_group rows _).0 ((member Plus).0 plus))
         ((in_group rows _).0 ((member Minus).0 minus))
 
-    of-sign : (sign : Sign) → (member_sign rows P ≡ some sign) ↔ InGroup rows (row_of sign P.a P.b)
+    of-sign : (sign : Sign) → (member_sign rows P ≡ Some sign) ↔ InGroup rows (row_of sign P.a P.b)
     of-sign Plus = Iff.trans (sign-found (row_in_group rows Plus P) (row_in_group rows Minus P) apart).0 (member Plus)
     of-sign Minus = Iff.trans (sign-found (row_in_group rows Plus P) (row_in_group rows Minus P) apart).1 (member Minus)
 

@@ -1,8 +1,8 @@
 -- A check over the first rows of an array, row by row: what it finds from a place on is what it finds at that row, or
 -- else from the next place on.
+use Rattle.std.specs.Prelude.{Option, None}
 use mathlib.Core.List.{List, [], ◌∷◌, ◌++◌}
 use mathlib.Core.Logic.{◌⊎◌}
-use mathlib.Core.Option.{Option, none}
 use mathlib.Core.Path.{◌≡◌, ap, ap₂, sym, ◌∙◌}
 use Prim.Native.Nat.{ℕ, ◌+◌, ◌<◌, ◌≤◌}
 use native.Mathlib.Numerals.{add-one}
@@ -42,6 +42,6 @@ module _ (check : List Pauli → ℕ → Pauli → Option Refusal) (rows : List 
       ap (λ i. first_fault check (take i rows) (at + i) (drop i (take count rows))) first
       ∙ ap (λ i. first_fault check [] i (take count rows)) (omega arith)
 
-  pub fault-end : (count ≤ place) ⊎ (length rows ≤ place) → Left ≡ none
+  pub fault-end : (count ≤ place) ⊎ (length rows ≤ place) → Left ≡ None
   unfolding first_fault
   fault-end end = ap (first_fault check (take place rows) (at + place)) (taken-end rows count place end)

@@ -1,5 +1,7 @@
 -- RULES, "Canonical generators": rows of the same signed group in reduced echelon form, their signs by the product
 -- rule.
+use Rattle.refusals.specs.declared.Refusal.{Refusal}
+use Rattle.std.specs.Prelude.{Result}
 use Rattle.std.specs.Prelude.{Bool, true, false, cond, ◌↔◌, ◌≢◌, ◌≡◌, ℕ, zero, suc, ◌+◌, ◌*◌, ◌%◌, ◌^◌, ◌<◌, eqb, ltb}
 use Rattle.std.specs.Prelude.{length, get_or}
 use mathlib.Core.List.{List, [], ◌∷◌, ◌++◌, map, foldl}
@@ -8,7 +10,6 @@ use Rattle.letters.specs.Lists.{all_of}
 use Rattle.pauli.specs.Masks.{bits}
 use Rattle.pauli.specs.Product.{identity, product, modulo4, same_masks}
 use Rattle.code_record.specs.declared.Code.{Code}
-use Rattle.refusals.specs.declared.Written.{Written}
 use Rattle.code_record.specs.Record.{generators, is_row}
 use Rattle.sheet.specs.Text.{After, written}
 use Rattle.sheet.specs.Writer.{row_lines}
@@ -87,5 +88,5 @@ unfoldable pub canonical_text : Code → List ℕ
 canonical_text c = row_lines "h=" c.n (canonical_generators c.n (generators c))
 
 -- RULES, "Calls and buffers": 15, then 6 to 8 with the lines of the written sheet, then 17, then the `h=` lines.
-unfoldable pub write_canonical : Code → List ℕ → After Written
+unfoldable pub write_canonical : Code → List ℕ → After (Result ℕ Refusal)
 write_canonical c buffer = written (group_fault c) (canonical_text c) buffer

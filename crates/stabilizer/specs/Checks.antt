@@ -1,6 +1,6 @@
 -- The checks of the generators: 6, then 7 and 8 together.
+use Rattle.std.specs.Prelude.{Option, None}
 use Rattle.std.specs.Prelude.{List, [], ◌∷◌, ◌++◌, map, ℕ, ◌+◌}
-use Rattle.std.proofs.Math.Option.{Option, none}
 use Rattle.pauli.specs.declared.Pauli.{Pauli}
 use Rattle.letters.specs.Lists.{any_of}
 use Rattle.pauli.specs.Product.{identity, product, anticommutes, same_pauli}
@@ -14,7 +14,7 @@ use Rattle.stabilizer.specs.Group.{group}
 -- A check over all its rows, in order, from the line `at` on. It sees the rows before each row, that row's line, and
 -- the row.
 unfoldable pub first_fault : (List Pauli → ℕ → Pauli → Option Refusal) → List Pauli → ℕ → List Pauli → Option Refusal
-first_fault check before at [] = none
+first_fault check before at [] = None
 first_fault check before at (P ∷ rows) =
     let later = first_fault check (before ++ P ∷ []) (at + 1) rows in check before at P then later
 

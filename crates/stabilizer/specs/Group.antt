@@ -1,6 +1,6 @@
 -- RULES, "Admission": the group of a list of rows is all products of a selection of them; the empty one gives I.
+use Rattle.std.specs.Prelude.{Option, Some, None}
 use Rattle.std.specs.Prelude.{Bool, true, false, cond, List, [], ◌∷◌, ◌++◌, map, ◌≡◌}
-use Rattle.std.proofs.Math.Option.{Option, none, some}
 use Rattle.pauli.specs.declared.Pauli.{Pauli}
 use Rattle.letters.specs.declared.Sign.{Sign}
 use Rattle.letters.specs.declared.Sign.TheVariants.{Plus, Minus}
@@ -39,4 +39,4 @@ row_in_group rows sign P = any_of (same_pauli (row_of sign P.a P.b)) (group rows
 
 -- The sign of the member that has P's masks, where there is one. For rows that pass 6 to 8 there is one at most.
 unfoldable pub member_sign : List Pauli → Pauli → Option Sign
-member_sign rows P = cond (row_in_group rows Plus P) (some Plus) (cond (row_in_group rows Minus P) (some Minus) none)
+member_sign rows P = cond (row_in_group rows Plus P) (Some Plus) (cond (row_in_group rows Minus P) (Some Minus) None)

@@ -1,6 +1,7 @@
 -- What is stated of the group and of canonical generators.
+use Rattle.std.specs.Prelude.{Some, None}
+use Rattle.std.specs.Result.{result_err}
 use Rattle.std.specs.Prelude.{true, false, List, [], ◌∷◌, ◌++◌, ◌↔◌, ◌≡◌, ℕ, ◌^◌, ◌≤◌, ◌<◌, eqb, ltb, length, get_or}
-use Rattle.std.proofs.Math.Option.{none, some}
 use Rattle.std.specs.Int.Bits.{bit_xor}
 use Rattle.pauli.specs.declared.Pauli.{Pauli}
 use Rattle.letters.specs.Lists.{any_of, all_of}
@@ -10,7 +11,6 @@ use Rattle.pauli.specs.Product.{identity, product, commutes, same_pauli}
 use Rattle.code_record.specs.declared.Code.{Code}
 use Rattle.refusals.specs.declared.Refusal.{Refusal}
 use Rattle.code_record.specs.Record.{is_row, on_qubits}
-use Rattle.refusals.specs.Refusals.{written_refusal}
 use Rattle.sheet.specs.Statements.{RefusalLeaves, Among}
 use Rattle.stabilizer.specs.Group.{InGroup, group, InGroupUpToPhase, in_group_up_to_phase, member_sign}
 use Rattle.stabilizer.specs.Checks.{minus_identity, generator_fault, group_fault}
@@ -79,14 +79,14 @@ pub record StabilizerRows (n : ℕ) (rows : List Pauli) : Type 0 where
 -- Rows that pass 6 to 8 are such rows.
 abbrev pub FaultlessRowsStabilize : Type 0
 FaultlessRowsStabilize =
-    (n at : ℕ) (rows : List Pauli) → all_of (is_row n) rows ≡ true → generator_fault at rows ≡ none
+    (n at : ℕ) (rows : List Pauli) → all_of (is_row n) rows ≡ true → generator_fault at rows ≡ None
     → StabilizerRows n rows
 
 -- One signed row of their group at most has given masks, and the sign found is its sign; there is one exactly where
 -- some selection's product has these masks.
 pub record MemberSignDecides (rows : List Pauli) (P : Pauli) : Type 0 where
-  pub found : (s : Sign) → (member_sign rows P ≡ some s) ↔ InGroup rows (row_of s P.a P.b)
-  pub missing : (member_sign rows P ≡ none) ↔ (in_group_up_to_phase rows P ≡ false)
+  pub found : (s : Sign) → (member_sign rows P ≡ Some s) ↔ InGroup rows (row_of s P.a P.b)
+  pub missing : (member_sign rows P ≡ None) ↔ (in_group_up_to_phase rows P ≡ false)
 
 abbrev pub MemberSignIsDecided : Type 0
 MemberSignIsDecided = (n : ℕ) (rows : List Pauli) → StabilizerRows n rows → (P : Pauli) → MemberSignDecides rows P
@@ -99,16 +99,16 @@ CanonicalGeneratorsAreCanonical =
 -- There are no more canonical generators than rows, and of rows that pass 6 to 8 there are as many.
 pub record CanonicalGeneratorsAreCounted : Type 0 where
   pub few : (n : ℕ) (rows : List Pauli) → length (canonical_generators n rows) ≤ length rows
-  pub same : (n at : ℕ) (rows : List Pauli) → all_of (is_row n) rows ≡ true → generator_fault at rows ≡ none
+  pub same : (n at : ℕ) (rows : List Pauli) → all_of (is_row n) rows ≡ true → generator_fault at rows ≡ None
       → length (canonical_generators n rows) ≡ length rows
 
 -- A refusal of the call leaves the buffer as it was.
 abbrev pub CanonicalRefusalsLeave : Type 0
-CanonicalRefusalsLeave = (c : Code) (buffer : List ℕ) → RefusalLeaves written_refusal buffer (write_canonical c buffer)
+CanonicalRefusalsLeave = (c : Code) (buffer : List ℕ) → RefusalLeaves result_err buffer (write_canonical c buffer)
 
 -- The numbers with which it refuses, and those of its checks alone.
 pub record CanonicalRefusalNumbers : Type 0 where
   pub call : (c : Code) (buffer : List ℕ) (refusal : Refusal)
-      → written_refusal (write_canonical c buffer).answer ≡ some refusal
+      → result_err (write_canonical c buffer).answer ≡ Some refusal
       → Among (6 ∷ 7 ∷ 8 ∷ 15 ∷ 17 ∷ []) refusal
-  pub checks : (c : Code) (refusal : Refusal) → group_fault c ≡ some refusal → Among (6 ∷ 7 ∷ 8 ∷ 15 ∷ []) refusal
+  pub checks : (c : Code) (refusal : Refusal) → group_fault c ≡ Some refusal → Among (6 ∷ 7 ∷ 8 ∷ 15 ∷ []) refusal

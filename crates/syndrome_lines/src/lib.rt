@@ -6,44 +6,43 @@ ghost use Rattle.syndrome_lines.specs.SyndromeLines.{mask_line, check_lines};
 
 use code_record::ROW_ROOM;
 use line_kinds::LineKind;
-use syndrome_reader::SyndromeRead;
 
 // The line of a syndrome of r generators, at the start of s, as a mask. r is tested before the line feed is looked for,
 // so that its place is a usize.
-pub fn read_syndrome_line(s: &[u8], r: usize) -> SyndromeRead
+pub fn read_syndrome_line(s: &[u8], r: usize) -> Option<u32>
     ensures { result ≡ mask_line r s.now }
 {
-    let LineKind::Syndrome = line_kinds::line_kind(s) else {
-        return SyndromeRead::Malformed;
-    };
+    if line_kinds::line_kind(s) != LineKind::Syndrome {
+        return None;
+    }
     if ROW_ROOM < r {
-        return SyndromeRead::Malformed;
+        return None;
     }
     if !line_parts::line_feed_at(s, r + 2) {
-        return SyndromeRead::Malformed;
+        return None;
     }
     syndrome_reader::read_syndrome(r, &s[2..r + 2])
 }
 
-// All lines to the end were read; or one is off its form, behind so many that were read.
+// A line is off its form, behind so many that were read.
 #[derive(Clone, Copy)]
-pub enum SyndromeLines {
-    Read,
-    OffForm(usize),
+pub struct OffForm {
+    pub before: usize,
 }
 
-// Whether all of s is lines of syndromes of r generators.
-pub fn check_syndromes(s: &[u8], r: usize) -> SyndromeLines
+// Whether all of s is lines of syndromes of r generators. The loop goes on by each line that was read, so it is no
+// `for`.
+pub fn check_syndromes(s: &[u8], r: usize) -> Result<(), OffForm>
     ensures { result ≡ check_lines r s.now }
 {
     let mut end: usize = 0;
     let mut count: usize = 0;
     while end < s.len() {
-        let SyndromeRead::Mask(_) = read_syndrome_line(&s[end..], r) else {
-            return SyndromeLines::OffForm(count);
+        let Some(_) = read_syndrome_line(&s[end..], r) else {
+            return Err(OffForm { before: count });
         };
         end += r + 3;
         count += 1;
     }
-    SyndromeLines::Read
+    Ok(())
 }

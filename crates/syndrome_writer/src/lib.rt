@@ -10,9 +10,8 @@ ghost use Rattle.decoder.specs.Syndrome.{bit_byte, syndrome_text, write_syndrome
 ghost use Rattle.syndrome_writer.specs.Characters.{characters_written};
 
 use code_record::{Code, ROW_ROOM};
-use decoder::SyndromeAnswer;
 use pauli::Pauli;
-use refusals::{Refusal, Written};
+use refusals::Refusal;
 
 // The character of one generator: 1 where the Pauli anticommutes with it.
 fn character(generator: Pauli, p: Pauli) -> u8
@@ -27,38 +26,34 @@ fn characters(r: usize, g: [Pauli; ROW_ROOM], p: Pauli, out: &mut [u8])
     requires r_in_bounds { r ≤ length out.old }
     ensures { out.new ≡ laid (syndrome_text (syndrome (take r g) p)) out.old }
 {
-    let mut place: usize = 0;
-    while place < r {
+    for place in 0..r {
         out[place] = character(g[place], p);
-        place += 1;
     }
 }
 
 // The syndrome of a Pauli, into an output buffer: 15 where the record is outside its limits, then 17 where the buffer
 // is shorter than r, then a character for each generator. The bytes behind them stay, and a refusal leaves the whole
 // buffer. The count of characters is answered too: a caller that read r beside the call would copy the record for it.
-pub fn write_characters(code: Code, p: Pauli, out: &mut [u8]) -> Written
+pub fn write_characters(code: Code, p: Pauli, out: &mut [u8]) -> Result<usize, Refusal>
     ensures value { result ≡ characters_written code.r (write_syndrome code p out.old).answer }
     ensures out_after { out.new ≡ (write_syndrome code p out.old).buffer }
 {
     if !record_limits::within_limits(code) {
-        return Written::Refused(Refusal::RecordLimits);
+        return Err(Refusal::RecordLimits);
     }
     if out.len() < code.r {
-        return Written::Refused(Refusal::ShortBuffer);
+        return Err(Refusal::ShortBuffer);
     }
     let g = code.g;
     characters(code.r, g, p, out);
-    Written::Count(code.r)
+    Ok(code.r)
 }
 
 // The same, without the count.
-pub fn write_syndrome(code: Code, p: Pauli, out: &mut [u8]) -> SyndromeAnswer
+pub fn write_syndrome(code: Code, p: Pauli, out: &mut [u8]) -> Result<(), Refusal>
     ensures value { result ≡ (write_syndrome code p out.old).answer }
     ensures out_after { out.new ≡ (write_syndrome code p out.old).buffer }
 {
-    match write_characters(code, p, out) {
-        Written::Count(_) => SyndromeAnswer::Given,
-        Written::Refused(refusal) => SyndromeAnswer::Refused(refusal),
-    }
+    write_characters(code, p, out)?;
+    Ok(())
 }

@@ -5,12 +5,11 @@
 // mask.
 ghost use Rattle.std.specs.Prelude.{◌≤◌};
 
-use crate::written::{Writer, write_thrice};
+use crate::written::write_thrice;
 use code_record::{Code, pair_count};
-use membership::Membership;
 use pauli::Pauli;
 use reduced_rows::ReducedRows;
-use refusals::{Checked, Family};
+use refusals::{Family, Refusal};
 use test_cases::{above, changed, print, print_number, print_refusal, turned, with_bits};
 
 pub fn answer_group(rt: &HostRuntime, text: &[u8], change: usize) {
@@ -20,14 +19,14 @@ pub fn answer_group(rt: &HostRuntime, text: &[u8], change: usize) {
     let r = code.r;
     let changed = changed(code, change);
     let elimination = elimination::eliminate(changed);
-    let answer = elimination.answer;
     let reduced = elimination.reduced;
-    print_checked(rt, answer, reduced.count);
+    print_checked(rt, elimination.answer, reduced.count);
     if reduced.count == 0 && change == 0 {
         return;
     }
     print_probes(rt, changed, reduced, n, r);
-    write_thrice(rt, Writer::Canonical, changed, lines_length(n, r));
+    let lines = lines_length(n, r);
+    write_thrice(rt, lines, |out| canonical::write_canonical(changed, out));
 }
 
 // How many bytes the lines of r rows of n letters have. In a record that was read both are small, and the remainders
@@ -39,11 +38,11 @@ fn lines_length(n: usize, r: usize) -> usize
     r % 32 * line
 }
 
-fn print_checked(rt: &HostRuntime, answer: Checked, count: usize) {
+fn print_checked(rt: &HostRuntime, answer: Result<(), Refusal>, count: usize) {
     print(rt, b"group");
     match answer {
-        Checked::Passed => print_number(rt, count),
-        Checked::Refused(refusal) => print_refusal(rt, refusal),
+        Ok(()) => print_number(rt, count),
+        Err(refusal) => print_refusal(rt, refusal),
     }
     print(rt, b"\n");
 }
@@ -70,19 +69,15 @@ fn print_family(rt: &HostRuntime, code: Code, reduced: ReducedRows, family: Fami
 
 // The sign of the member with p's masks, or that there is none; a mark behind it where `contains` says otherwise.
 fn print_membership(rt: &HostRuntime, code: Code, reduced: ReducedRows, p: Pauli) {
-    let mut member = true;
-    match membership::membership_of(code, p) {
-        Membership::Member(sign) => print(rt, &[b' ', sign.byte()]),
-        Membership::NotMember => {
-            print(rt, b" no");
-            member = false;
-        }
-        Membership::Refused(refusal) => {
-            print_refusal(rt, refusal);
-            return;
-        }
+    let sign = match membership::membership_of(code, p) {
+        Ok(sign) => sign,
+        Err(refusal) => return print_refusal(rt, refusal),
+    };
+    match sign {
+        Some(sign) => print(rt, &[b' ', sign.byte()]),
+        None => print(rt, b" no"),
     }
-    if reduced.contains(p) != member {
+    if reduced.contains(p) != sign.is_some() {
         print(rt, b"!");
     }
 }

@@ -29,7 +29,7 @@ fn main(rt: HostRuntime) {
     let mut text = [0u8; 65536];
     let mut input = rt.reader();
     for _ in 0..65536usize {
-        let Case::Got { kind, change, len } = test_cases::read_case(&mut input, &mut text) else {
+        let Some(Case { kind, change, len }) = test_cases::read_case(&mut input, &mut text) else {
             return;
         };
         answer(&rt, kind, change, &text[0..len]);

@@ -2,9 +2,9 @@
 // and a line feed. The answer is the product of the rows from left to right, whether the last row commutes with the
 // product of those before it, and the product's weight: "-YY commutes 2". A line with anything else is answered "not
 // rows".
-use crate::words::{Row, part_end, read_row};
+use crate::words::{Row, read_row, unmarked};
 use pauli::Pauli;
-use test_cases::{print, print_number};
+use test_cases::print;
 
 // The rows of a line up to some place: their product, and whether the last commutes with the product of the others.
 #[derive(Clone, Copy)]
@@ -12,62 +12,49 @@ struct Line {
     product: Pauli,
     commutes: bool,
     width: u32,
-    rows: bool,
 }
 
 pub fn answer_products(rt: &HostRuntime, text: &[u8]) {
-    let mut line = Line::without(true);
-    let mut from = 0;
-    while from < text.len() {
-        let end = part_end(text, from, b' ');
-        line = line.with(&text[from..end]);
-        from = end + 1;
+    match Line::read(text) {
+        Some(line) => line.print(rt),
+        None => print(rt, b"not rows\n"),
     }
-    line.print(rt);
 }
 
 impl Line {
-    // A line with no row yet, or with a word that is none.
-    fn without(rows: bool) -> Line {
-        Line {
+    // Nothing where a word is no row, or one of another length.
+    fn read(text: &[u8]) -> Option<Line> {
+        let mut line = Line {
             product: Pauli::identity(),
             commutes: true,
             width: 0,
-            rows,
+        };
+        for word in text.split_inclusive(|c| matches!(c, b' ' | b'\n')) {
+            line = line.with(read_row(unmarked(word))?)?;
         }
+        Some(line)
     }
 
-    fn with(self, word: &[u8]) -> Line {
-        let Row::Got { row, width } = read_row(word) else {
-            return Line::without(false);
-        };
-        if self.width != 0 && self.width != width {
-            return Line::without(false);
+    fn with(self, next: Row) -> Option<Line> {
+        if self.width != 0 && self.width != next.width {
+            return None;
         }
-        let before = self.product;
-        Line {
-            product: before.product(row),
-            commutes: before.commutes(row),
-            width,
-            rows: self.rows,
-        }
+        Some(Line {
+            product: self.product.product(next.row),
+            commutes: self.product.commutes(next.row),
+            width: next.width,
+        })
     }
 
     fn print(self, rt: &HostRuntime) {
-        if !self.rows {
-            print(rt, b"not rows\n");
-            return;
-        }
-        let product = self.product;
-        print_phase(rt, product);
-        print_letters(rt, product, self.width);
-        if self.commutes {
-            print(rt, b" commutes");
+        print_phase(rt, self.product);
+        print_letters(rt, self.product, self.width);
+        let commutes = if self.commutes {
+            "commutes"
         } else {
-            print(rt, b" anticommutes");
-        }
-        print_number(rt, product.weight() as usize);
-        print(rt, b"\n");
+            "anticommutes"
+        };
+        let _ = println!(rt; " {commutes} {}", self.product.weight());
     }
 }
 
@@ -77,8 +64,7 @@ fn print_phase(rt: &HostRuntime, p: Pauli) {
         print(rt, &[p.sign().byte()]);
     } else {
         let minus_i = Pauli { p: 3, a: 0, b: 0 };
-        print(rt, &[p.product(minus_i).sign().byte()]);
-        print(rt, b"i");
+        print(rt, &[p.product(minus_i).sign().byte(), b'i']);
     }
 }
 

@@ -2,17 +2,17 @@
 // the record is not to be changed, nothing more. Else it goes on with numbers and rows of the record, what is behind
 // the lines, and what the reader of a sheet by itself says; then the record is changed, and written into buffers
 // about as long as the lines.
-use crate::written::{Writer, write_thrice};
+use crate::written::write_thrice;
 use code_record::{Code, LinesReading};
 use pauli::Pauli;
-use refusals::{Family, Lines};
-use test_cases::{changed, one_less, print, print_number, print_refusal};
+use refusals::Family;
+use test_cases::{changed, print, print_number, print_refusal};
 
 pub fn answer_sheet(rt: &HostRuntime, text: &[u8], change: usize) {
     let reading = reader::read_lines(text);
     let answer = reading.answer;
     let code = reading.code;
-    let used = used_of(answer);
+    let used = answer.unwrap_or(0);
     print(rt, b"lines");
     print_reading(rt, reading);
     if used == 0 && change == 0 {
@@ -22,7 +22,8 @@ pub fn answer_sheet(rt: &HostRuntime, text: &[u8], change: usize) {
     print_rows(rt, code);
     print_behind(rt, sheet_end::behind(text, answer));
     answer_alone(rt, text);
-    write_thrice(rt, Writer::Sheet, changed(code, change), used);
+    let changed = changed(code, change);
+    write_thrice(rt, used, |out| writer::write_sheet(changed, out));
 }
 
 fn answer_alone(rt: &HostRuntime, text: &[u8]) {
@@ -32,20 +33,11 @@ fn answer_alone(rt: &HostRuntime, text: &[u8]) {
     print_numbers(rt, alone.code);
 }
 
-// How many bytes were read: none beside a refusal.
-fn used_of(answer: Lines) -> usize {
-    match answer {
-        Lines::Read { used } => used,
-        Lines::Refused(_) => 0,
-    }
-}
-
 // How many bytes were read, or a refusal; and the line of w, which is 0 beside a refusal.
 fn print_reading(rt: &HostRuntime, reading: LinesReading) {
-    let answer = reading.answer;
-    match answer {
-        Lines::Read { used } => print_number(rt, used),
-        Lines::Refused(refusal) => print_refusal(rt, refusal),
+    match reading.answer {
+        Ok(used) => print_number(rt, used),
+        Err(refusal) => print_refusal(rt, refusal),
     }
     if reading.claim_at != 0 {
         print_number(rt, reading.claim_at);
@@ -54,11 +46,7 @@ fn print_reading(rt: &HostRuntime, reading: LinesReading) {
 }
 
 pub fn print_numbers(rt: &HostRuntime, code: Code) {
-    print(rt, b"record");
-    print_number(rt, code.n);
-    print_number(rt, code.r);
-    print_number(rt, code.d);
-    print(rt, b"\n");
+    let _ = println!(rt; "record {} {} {}", code.n, code.r, code.d);
 }
 
 // The phases and masks of w, of the first row of each family, and of the last generator, or the first where there is
@@ -69,21 +57,17 @@ pub fn print_rows(rt: &HostRuntime, code: Code) {
     print_row(rt, code.row(Family::Generator, 0));
     print_row(rt, code.row(Family::LogicalX, 0));
     print_row(rt, code.row(Family::LogicalZ, 0));
-    print_row(rt, code.row(Family::Generator, one_less(code.r)));
+    print_row(rt, code.row(Family::Generator, code.r.saturating_sub(1)));
     print(rt, b"\n");
 }
 
 pub fn print_row(rt: &HostRuntime, row: Pauli) {
-    print_number(rt, row.p as usize);
-    print_number(rt, row.a as usize);
-    print_number(rt, row.b as usize);
+    let _ = print!(rt; " {} {} {}", row.p, row.a, row.b);
 }
 
 // How many bytes are behind the lines, and these bytes unless they are more than 40.
 fn print_behind(rt: &HostRuntime, behind: &[u8]) {
-    print(rt, b"behind");
-    print_number(rt, behind.len());
-    print(rt, b"\n");
+    let _ = println!(rt; "behind {}", behind.len());
     if behind.len() <= 40 {
         print(rt, behind);
         print(rt, b"\n");

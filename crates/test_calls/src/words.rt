@@ -1,49 +1,37 @@
-// The parts that a text is made of: lines or words, and signed rows.
-ghost use Rattle.std.specs.Prelude.{max, ◌≤◌, length};
-
-use letters::{Letter, LetterRead, Sign, SignRead};
+// The parts that a text is made of: words, and signed rows.
+use letters::{Letter, Sign};
 use pauli::Pauli;
 
+// A row, and how many letters it has.
 #[derive(Clone, Copy)]
-pub enum Row {
-    Got { row: Pauli, width: u32 },
-    NotARow,
+pub struct Row {
+    pub row: Pauli,
+    pub width: u32,
 }
 
-// Where the part that begins at `from` ends: at the mark, a line feed or the end of the text. Behind that end, a part
-// has no bytes.
-pub fn part_end(text: &[u8], from: usize, mark: u8) -> usize
-    ensures lower_bound { from ≤ result }
-    ensures upper_bound { result ≤ max from (length text.now) }
-{
-    let mut end = from;
-    while end < text.len() {
-        if text[end] == mark || text[end] == b'\n' {
-            return end;
-        }
-        end += 1;
+// A part of a text without the mark behind it, a space or a line feed. The last part may have none.
+pub fn unmarked(part: &[u8]) -> &[u8] {
+    match part {
+        [bare @ .., b' ' | b'\n'] => bare,
+        _ => part,
     }
-    end
 }
 
 // A sign and up to 32 letters.
-pub fn read_row(word: &[u8]) -> Row {
-    if word.len() < 2 || 33 < word.len() {
-        return Row::NotARow;
+pub fn read_row(word: &[u8]) -> Option<Row> {
+    let (sign, letters) = word.split_first()?;
+    let sign = Sign::read(*sign)?;
+    if letters.is_empty() || 32 < letters.len() {
+        return None;
     }
-    let width = (word.len() - 1) as u32;
-    let SignRead::Got(sign) = Sign::read(word[0]) else {
-        return Row::NotARow;
-    };
     let mut a: u32 = 0;
     let mut b: u32 = 0;
-    for place in 0..width {
-        let LetterRead::Got(letter) = Letter::read(word[place as usize + 1]) else {
-            return Row::NotARow;
-        };
-        a = a | letter.x_bit() << place;
-        b = b | letter.z_bit() << place;
+    for (place, byte) in letters.iter().enumerate() {
+        let letter = Letter::read(*byte)?;
+        a |= letter.x_bit() << place;
+        b |= letter.z_bit() << place;
     }
     let row = Pauli::signed(sign, a, b);
-    Row::Got { row, width }
+    let width = letters.len() as u32;
+    Some(Row { row, width })
 }

@@ -1,14 +1,14 @@
 -- One byte more at the end: what digits say, and how many bytes are shown. Both are folds, so the byte goes in by the
 -- law of a fold over an append.
-use mathlib.Core.Bool.{true, false}
 use mathlib.Core.List.{List, [], ◌∷◌, ◌++◌, foldr, foldl-append, foldr-append}
-use mathlib.Core.Path.{◌≡◌, refl, ap, ◌∙◌}
+use mathlib.Core.Path.{◌≡◌, refl, ap, sym, ◌∙◌}
 use Prim.Native.Nat.{ℕ, suc, ◌+◌, ◌-◌, ◌*◌, ◌/◌, ◌%◌, ◌<◌, ◌≤◌}
 use native.Mathlib.Numerals.{add-one}
 use native.Mathlib.Omega.{arith}
+use borrow.Author.Tests.{ne_eqb}
 use lib.Dec.{eqb}
 use lib.ListN.{length, take, get_or}
-use lib.Seq.{take-suc, length-take-le}
+use lib.Seq.{take-suc, take-length, length-take-le}
 use Rattle.pauli.proofs.Modulo.{same-remainder}
 use Rattle.test_cases.specs.Cases.{said, dot, counted, shown}
 
@@ -26,16 +26,23 @@ unfolding counted
 all-before [] m = omega arith
 all-before (c ∷ s) m = rw (all-before s m) (omega arith)
 
-module _ (s : List ℕ) (end : ℕ) (some_byte : 0 < end) (within : end ≤ length s) where
-  last_taken : take end s ≡ take (end - 1) s ++ get_or s (end - 1) 0 ∷ []
-  last_taken = let e : end ≡ suc (end - 1) = omega arith in ap (λ m. take m s) e ∙ take-suc s (end - 1) 0 (omega arith)
+pub shown-nothing : (s : List ℕ) → length s < 1 → length s ≡ shown s
+unfolding shown
+shown-nothing [] none_left = refl
+shown-nothing (c ∷ s) none_left = absurd (omega arith)
 
-  pub shown-before-dot : eqb (get_or s (end - 1) 0) dot ≡ true → shown (take (end - 1) s) ≡ shown (take end s)
-  unfolding shown counted
-  shown-before-dot e = rw (last_taken, foldr-append, e) refl
+module _ (s : List ℕ) (some_byte : 1 ≤ length s) where
+  all_taken : take (length s - 1) s ++ get_or s (length s - 1) 0 ∷ [] ≡ s
+  all_taken =
+      let e : suc (length s - 1) ≡ length s = omega arith in
+      sym (take-suc s (length s - 1) 0 (omega arith)) ∙ ap (λ m. take m s) e ∙ take-length s
 
-  pub shown-to-other : eqb (get_or s (end - 1) 0) dot ≡ false → shown (take end s) ≡ end
+  pub shown-before-dot : get_or s (length s - 1) 0 ≡ dot → shown (take (length s - 1) s) ≡ shown s
   unfolding shown counted
-  shown-to-other e =
-      let whole = length-take-le (end - 1) s (omega arith) in
-      rw (last_taken, foldr-append, e, all-before) (omega (arith, whole))
+  shown-before-dot e = rw (foldr-append, e) refl ∙ ap shown all_taken
+
+  pub shown-to-other : (get_or s (length s - 1) 0 ≡ dot → ⊥) → length s ≡ shown s
+  unfolding shown counted
+  shown-to-other other =
+      let whole = length-take-le (length s - 1) s (omega arith) in
+      rw (foldr-append, ne_eqb _ dot other, all-before) (omega (arith, whole)) ∙ ap shown all_taken

@@ -1,5 +1,5 @@
 -- What the contracts of reading and printing cite.
-use Rattle.std.specs.Prelude.{cond, ◌≡◌, ℕ, zero, suc, ◌+◌, ◌*◌, ◌%◌, ◌≤◌, eqb, length, take}
+use Rattle.std.specs.Prelude.{Option, Some, None, cond, ◌≡◌, ℕ, zero, suc, ◌+◌, ◌*◌, ◌%◌, ◌≤◌, eqb, length, take}
 use mathlib.Core.List.{List, foldl, foldr}
 use Prim.Native.Char.{code}
 use Rattle.test_cases.specs.declared.Case.{Case}
@@ -13,9 +13,9 @@ abbrev pub IsPrefixLen : ℕ → List ℕ → Type 0
 IsPrefixLen n xs = (n ≤ length xs) × (n ≡ length (take n xs))
 
 -- The text of a case lies at the start of the bytes.
-abbrev pub Within : Case → List ℕ → Type 0
-Within (Case.Got kind change len) s = IsPrefixLen len s
-Within Case.End s = Unit {0}
+abbrev pub Within : Option Case → List ℕ → Type 0
+Within (Some case) s = IsPrefixLen case.len s
+Within None s = Unit {0}
 
 -- What a buffer holds before a writer is lent it, and how many bytes it has at most.
 abbrev pub dot : ℕ

@@ -9,7 +9,7 @@ mod output;
 mod record;
 mod row;
 
-ghost use Rattle.std.specs.Prelude.{◌≡◌, ◌-◌, ◌%◌};
+ghost use Rattle.std.specs.Prelude.{◌≡◌, ◌%◌};
 ghost use Rattle.test_cases.specs.Cases.{said, IsPrefixLen, Within};
 
 pub use output::{dots, print, print_buffer, print_number, print_refusal, print_written};
@@ -17,29 +17,30 @@ pub use record::changed;
 pub use row::{above, turned, with_bits};
 use std::io::Read;
 
-// A case's kind and change, and how many bytes of its text were read; or that there is no case.
+// A case's kind and change, and how many bytes of its text were read.
 #[derive(Clone, Copy)]
-pub enum Case {
-    Got { kind: u8, change: usize, len: usize },
-    End,
+pub struct Case {
+    pub kind: u8,
+    pub change: usize,
+    pub len: usize,
 }
 
 // Reads the next case, its text to the start of `text`. A text that is longer than that counts as no case.
-pub fn read_case<R: Read>(input: &mut R, text: &mut [u8]) -> Case
+pub fn read_case<R: Read>(input: &mut R, text: &mut [u8]) -> Option<Case>
     ensures { Within result text.new }
 {
     let mut header = [0u8; 10];
     if read_full(&mut *input, &mut header) < 10 {
-        return Case::End;
+        return None;
     }
     let kind = header[0];
     let change = number(&header[1..3]);
     let announced = number(&header[4..9]);
     if text.len() < announced {
-        return Case::End;
+        return None;
     }
     let len = read_full(input, &mut text[0..announced]);
-    Case::Got { kind, change, len }
+    Some(Case { kind, change, len })
 }
 
 // Reads until the buffer is full, the input ends or a read fails. How many bytes were put at the buffer's start.
@@ -61,19 +62,9 @@ fn read_full<R: Read>(input: &mut R, buffer: &mut [u8]) -> usize
 fn number(digits: &[u8]) -> usize
     ensures { result ≡ said digits.now % 1000000 }
 {
-    let mut number: usize = 0;
-    for i in 0..digits.len() {
-        number = (number * 10 + (digits[i] % 16) as usize) % 1000000;
+    let mut number = 0;
+    for digit in digits {
+        number = (number * 10 + usize::from(digit % 16)) % 1000000;
     }
     number
-}
-
-// One less, and 0 for 0.
-pub fn one_less(m: usize) -> usize
-    ensures { result ≡ m - 1 }
-{
-    if m == 0 {
-        return 0;
-    }
-    m - 1
 }

@@ -2,47 +2,30 @@
 ghost use Rattle.std.specs.Prelude.{◌≡◌, ◌≤◌, length, replicate};
 ghost use Rattle.test_cases.specs.Cases.{buffer_room, dot, shown};
 
-use refusals::{Refusal, RowFamily, Written};
+use refusals::Refusal;
 
 pub fn print(rt: &HostRuntime, text: &[u8]) {
-    match rt.write_all(text) {
-        Ok(()) | Err(_) => {}
-    }
-}
-
-fn print_decimal(rt: &HostRuntime, number: u64) {
-    match rt.print(number) {
-        Ok(()) | Err(_) => {}
-    }
+    let _ = rt.write_all(text);
 }
 
 // Behind a space.
 pub fn print_number(rt: &HostRuntime, number: usize) {
-    print(rt, b" ");
-    print_decimal(rt, number as u64);
+    let _ = print!(rt; " {number}");
 }
 
 // The number, the line, and the family where there is one.
 pub fn print_refusal(rt: &HostRuntime, refusal: Refusal) {
     let values = refusal.values();
-    let family = values.family;
-    print(rt, b" r=");
-    print_decimal(rt, values.number as u64);
-    print(rt, b" at=");
-    print_decimal(rt, values.line as u64);
-    match family {
-        RowFamily::Row(family) => {
-            print(rt, b" of=");
-            print(rt, &[family.key()]);
-        }
-        RowFamily::NoRow => {}
+    let _ = print!(rt; " r={} at={}", values.number, values.line);
+    if let Some(family) = values.family {
+        let _ = print!(rt; " of={}", char::from(family.key()));
     }
 }
 
-pub fn print_written(rt: &HostRuntime, written: Written) {
+pub fn print_written(rt: &HostRuntime, written: Result<usize, Refusal>) {
     match written {
-        Written::Count(count) => print_number(rt, count),
-        Written::Refused(refusal) => print_refusal(rt, refusal),
+        Ok(count) => print_number(rt, count),
+        Err(refusal) => print_refusal(rt, refusal),
     }
     print(rt, b"\n");
 }
@@ -70,9 +53,9 @@ fn shown_len(buffer: &[u8]) -> usize
     ensures value { result ≡ shown buffer.now }
     ensures upper_bound { result ≤ length buffer.now }
 {
-    let mut end = buffer.len();
-    while 0 < end && buffer[end - 1] == b'.' {
-        end -= 1;
+    let mut shown = buffer;
+    while let [rest @ .., b'.'] = shown {
+        shown = rest;
     }
-    end
+    shown.len()
 }

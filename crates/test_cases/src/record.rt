@@ -4,9 +4,9 @@ use code_record::{Code, ROW_ROOM, pair_count};
 use pauli::Pauli;
 use refusals::Family;
 
-// The record with one thing changed, by the number of the change: n, r or d up to 10, w up to 13, every phase with
-// 14, then a generator, and from 23 on a logical row. In a record that was read n and d are small, and the remainders
-// change nothing.
+// The record with one thing changed, by the number of the change, as the format of standard input has it: n, r or d up
+// to 10, w up to 13, every phase with 14, then a generator, and from 23 on a logical row. In a record that was read n
+// and d are small, and the remainders change nothing.
 pub fn changed(code: Code, change: usize) -> Code {
     let mut c = code;
     let w = code.w;
@@ -71,40 +71,25 @@ fn with_row(code: Code, family: Family, place: usize, row: Pauli) -> Code {
     let mut c = code;
     if place < ROW_ROOM {
         match family {
-            Family::Generator => {
-                c.g[place] = row;
-            }
-            Family::LogicalX => {
-                c.x[place] = row;
-            }
-            Family::LogicalZ => {
-                c.z[place] = row;
-            }
+            Family::Generator => c.g[place] = row,
+            Family::LogicalX => c.x[place] = row,
+            Family::LogicalZ => c.z[place] = row,
         }
     }
     c
 }
 
 fn with_claim(code: Code, w: Pauli) -> Code {
-    let mut c = code;
-    c.w = w;
-    c
+    Code { w, ..code }
 }
 
 // Every phase with 4 more, which is the same phase.
 fn with_phases(code: Code) -> Code {
-    let mut c = with_claim(code, turned(code.w, 4));
-    for place in 0..ROW_ROOM {
-        c = with_phases_at(c, place);
+    Code {
+        g: code.g.map(|row| turned(row, 4)),
+        x: code.x.map(|row| turned(row, 4)),
+        z: code.z.map(|row| turned(row, 4)),
+        w: turned(code.w, 4),
+        ..code
     }
-    c
-}
-
-fn with_phases_at(code: Code, place: usize) -> Code {
-    let g = turned(code.row(Family::Generator, place), 4);
-    let x = turned(code.row(Family::LogicalX, place), 4);
-    let z = turned(code.row(Family::LogicalZ, place), 4);
-    let c = with_row(code, Family::Generator, place, g);
-    let c = with_row(c, Family::LogicalX, place, x);
-    with_row(c, Family::LogicalZ, place, z)
 }

@@ -11,8 +11,7 @@ pub fn turned(row: Pauli, more: u32) -> Pauli
 {
     Pauli {
         p: row.p % 4 + more % 0xFFFF_FFFD,
-        a: row.a,
-        b: row.b,
+        ..row
     }
 }
 
@@ -21,9 +20,9 @@ pub fn with_bits(row: Pauli, a: u32, b: u32) -> Pauli
     ensures { result ≡ with_bits row a b }
 {
     Pauli {
-        p: row.p,
         a: row.a | a,
         b: row.b | b,
+        ..row
     }
 }
 
@@ -31,5 +30,5 @@ pub fn with_bits(row: Pauli, a: u32, b: u32) -> Pauli
 pub fn above(n: usize) -> u32
     ensures { result ≡ 2 ^ (n % 32) }
 {
-    1u32 << (n % 32) as u32
+    1 << (n % 32)
 }

@@ -12,7 +12,7 @@ use pauli::Pauli;
 fn is_identity(p: Pauli) -> bool
     ensures { result ≡ same_pauli identity p }
 {
-    p.p % 4 == 0 && (p.a == 0 && p.b == 0)
+    p.p % 4 == 0 && p.a == 0 && p.b == 0
 }
 
 // All bits of the rows' phases and masks, joined. A loop of this many turns without a test is compiled to join several
@@ -21,9 +21,7 @@ fn all_bits(rows: [Pauli; ROW_ROOM]) -> u32
     ensures { result ≡ all_bits rows }
 {
     let mut bits: u32 = 0;
-    let mut place = ROW_ROOM;
-    while place > 0 {
-        place -= 1;
+    for place in (0..ROW_ROOM).rev() {
         let p = rows[place];
         bits = bits | p.p | p.a | p.b;
     }
@@ -34,15 +32,7 @@ fn all_bits(rows: [Pauli; ROW_ROOM]) -> u32
 fn are_identities(rows: [Pauli; ROW_ROOM]) -> bool
     ensures { result ≡ are_identities rows }
 {
-    let mut place: usize = 0;
-    while place < ROW_ROOM {
-        let p = rows[place];
-        if !is_identity(p) {
-            return false;
-        }
-        place += 1;
-    }
-    true
+    rows.iter().all(|p| is_identity(*p))
 }
 
 // Whether all rows of three families are +I. Rows without a bit are, and that is told first, since it is quick. A phase
@@ -50,14 +40,6 @@ fn are_identities(rows: [Pauli; ROW_ROOM]) -> bool
 pub fn are_unused(g: [Pauli; ROW_ROOM], x: [Pauli; ROW_ROOM], z: [Pauli; ROW_ROOM]) -> bool
     ensures { result ≡ (are_identities g && are_identities x && are_identities z) }
 {
-    if (all_bits(g) | all_bits(x)) | all_bits(z) == 0 {
-        return true;
-    }
-    if !are_identities(g) {
-        return false;
-    }
-    if !are_identities(x) {
-        return false;
-    }
-    are_identities(z)
+    (all_bits(g) | all_bits(x)) | all_bits(z) == 0
+        || are_identities(g) && are_identities(x) && are_identities(z)
 }

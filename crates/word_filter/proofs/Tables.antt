@@ -1,7 +1,7 @@
 -- The table of first places: how it grows from the last word down, and what it rules out.
+use Rattle.std.specs.Prelude.{None}
 use mathlib.Core.Bool.{true, false, true≢false}
 use mathlib.Core.List.{List, [], ◌∷◌}
-use mathlib.Core.Option.{none}
 use mathlib.Core.Path.{◌≡◌, refl, ap, sym, subst, ◌∙◌}
 use Prim.Native.Nat.{ℕ, zero, suc, ◌+◌, ◌*◌, ◌-◌, ◌<◌, ◌≤◌}
 use native.Mathlib.Decide.{ℕ_discrete}
@@ -112,7 +112,7 @@ many-may-end places (suc (suc letters)) end want some more = refl
 -- A string on the last n qubits is not found where it is ruled out.
 pub none-ended : (places words second : List ℕ) (n letters end want shun : ℕ)
     → NoneBefore places (take (3 * n) words) → 3 * n ≤ length words → 3 * n ≤ end
-    → may_end places letters end want ≡ false → earliest_of words second n letters want shun ≡ none
+    → may_end places letters end want ≡ false → earliest_of words second n letters want shun ≡ None
 unfolding may_end
 none-ended places words second n zero end want shun told room behind e =
     identity-unwanted words second n want shun (eqb-false want 0 e)

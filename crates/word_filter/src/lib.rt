@@ -2,7 +2,7 @@
 // is looked for.
 #![tactic(auto)]
 
-ghost use Rattle.std.specs.Prelude.{◌≡◌, ◌*◌, min, take};
+ghost use Rattle.std.specs.Prelude.{◌≡◌, ◌*◌, take};
 ghost use Rattle.letter_sums.specs.Sums.{qubit_room};
 ghost use Rattle.word_filter.specs.Filter.{slot_of, first_places, may_end};
 
@@ -20,27 +20,14 @@ fn slot(word: u32) -> usize
     ((word ^ (word / 4096)) % 4096) as usize
 }
 
-// How many of `count` words stand in an array: all its places where there are more.
-fn word_count(count: usize) -> usize
-    ensures { result ≡ min count (3 * qubit_room) }
-{
-    if count < WORD_ROOM {
-        return count;
-    }
-    WORD_ROOM
-}
-
 // The first place for each slot of a word, of as many words as there is room for in an array of them. The places are
 // stored from the last one down, so that the first one stays.
 pub fn first_places(words: &[u32], places: &mut [u8; SLOTS])
     ensures { places.new ≡ first_places (take (3 * qubit_room) words.now) }
 {
     *places = [NO_PLACE; SLOTS];
-    let mut place = word_count(words.len());
-    while 0 < place {
-        place -= 1;
-        let at = slot(words[place]);
-        places[at] = place as u8;
+    for place in (0..words.len().min(WORD_ROOM)).rev() {
+        places[slot(words[place])] = place as u8;
     }
 }
 
@@ -50,15 +37,9 @@ pub fn first_places(words: &[u32], places: &mut [u8; SLOTS])
 pub fn may_end(places: &[u8], letters: usize, end: u8, want: u32) -> bool
     ensures { result ≡ may_end places.now letters end want }
 {
-    if letters == 0 {
-        return want == 0;
+    match letters {
+        0 => want == 0,
+        1 => places.get(slot(want)).copied().unwrap_or(0) < end,
+        2.. => true,
     }
-    if letters == 1 {
-        let at = slot(want);
-        if at < places.len() {
-            return places[at] < end;
-        }
-        return 0 < end;
-    }
-    true
 }

@@ -8,7 +8,7 @@ ghost use Rattle.sheet.specs.Text.{laid};
 ghost use Rattle.sheet.specs.Writer.{sheet_text, write_sheet};
 
 use code_record::Code;
-use refusals::{Refusal, Written};
+use refusals::{Refusal, bytes_written};
 
 // The lines of a sheet, of a record within limits.
 fn sheet_lines(out: &mut [u8], code: Code) -> usize
@@ -17,9 +17,9 @@ fn sheet_lines(out: &mut [u8], code: Code) -> usize
     ensures value { result ≡ length (sheet_text code) }
     ensures out_after { out.new ≡ laid (sheet_text code) out.old }
 {
-    let mut end = numbers_writer::write_numbers(b"n=", code.n, b"d=", code.d, out).count();
-    end += families_writer::write_families(code, &mut out[end..]).count();
-    end += row_writer::write_letters(b'w', code.n, code.w, &mut out[end..]).count();
+    let mut end = bytes_written(numbers_writer::write_numbers(b"n=", code.n, b"d=", code.d, out));
+    end += bytes_written(families_writer::write_families(code, &mut out[end..]));
+    end += bytes_written(row_writer::write_letters(b'w', code.n, code.w, &mut out[end..]));
     end
 }
 
@@ -42,15 +42,15 @@ fn sheet_length(code: Code) -> usize
 // The sheet of a record, into an output buffer: 15 where the record is outside its limits, then 17 where the buffer is
 // shorter than the sheet, then the sheet's bytes and their count. The bytes behind them stay, and a refusal leaves the
 // whole buffer.
-pub fn write_sheet(code: Code, out: &mut [u8]) -> Written
+pub fn write_sheet(code: Code, out: &mut [u8]) -> Result<usize, Refusal>
     ensures value { result ≡ (write_sheet code out.old).answer }
     ensures out_after { out.new ≡ (write_sheet code out.old).buffer }
 {
     if !record_limits::within_limits(code) {
-        return Written::Refused(Refusal::RecordLimits);
+        return Err(Refusal::RecordLimits);
     }
     if out.len() < sheet_length(code) {
-        return Written::Refused(Refusal::ShortBuffer);
+        return Err(Refusal::ShortBuffer);
     }
-    Written::Count(sheet_lines(out, code))
+    Ok(sheet_lines(out, code))
 }

@@ -35,7 +35,7 @@ module _ (c : tie.Start) where
   fits-header = front_fits (header code reduced) _ fits
 
 -- ---- behind the numbers
-module _ (c : tie.After-count-end) where
+module _ (c : tie.After-bytes_written-end) where
   abbrev start : tie.Start
   start = c.before.before.before.before.before.before.before.before.before
 
@@ -58,7 +58,7 @@ module _ (c : tie.After-count-end) where
       c.pair_count-k.ensures
       c.radius.ensures
 
-  behind-header : Holds (header (code start) (reduced start)) (buffer start) out c.count-end.result
+  behind-header : Holds (header (code start) (reduced start)) (buffer start) out c.bytes_written-end.result
   behind-header =
       let call = c.write_header in
       let whole = header-has-room (code start).n k (code start).d t (buffer start)
@@ -66,28 +66,28 @@ module _ (c : tie.After-count-end) where
       holds_as
       (record {
         content = content-is given (buffer start) whole call.ensures.1;
-        count = count-is given (buffer start) whole call.ensures.0 c.count-end.ensures;
+        count = count-is given (buffer start) whole call.ensures.0 c.bytes_written-end.ensures;
         size = call.auto.out;
       })
       same-header
 
-  inside : c.count-end.result ≤ length out
+  inside : c.bytes_written-end.result ≤ length out
   inside = end-within behind-header (fits-header start)
 
 -- ---- behind the rows
-module _ (c : tie.After-count-end-2) where
-  abbrev first : tie.After-count-end
+module _ (c : tie.After-bytes_written-end-2) where
+  abbrev first : tie.After-bytes_written-end
   first = c.before.before.before.before.before
 
   abbrev s : tie.Start
   s = start first
 
   abbrev end : ℕ
-  end = first.count-end.result
+  end = first.bytes_written-end.result
 
   behind-rows : Holds (code_by (code s) (reduced s)) (buffer s)
       (back end (out first) c.write_rows.new.out)
-      (end + c.count-end-2.result)
+      (end + c.bytes_written-end-2.result)
   behind-rows =
       let call = c.write_rows in
       let part = lent end (out first) in
@@ -95,7 +95,7 @@ module _ (c : tie.After-count-end-2) where
       let whole = rows-has-room 104 (code s).n (take (reduced s).count (reduced s).rows) part s.requires.0
       s.requires.1.0 (room-behind (behind-header first) lines (fits s)) in
       holds_as
-      (holds_more (behind-header first) lines (count-is lines part whole call.ensures.0 c.count-end-2.ensures)
+      (holds_more (behind-header first) lines (count-is lines part whole call.ensures.0 c.bytes_written-end-2.ensures)
       (content-is lines part whole call.ensures.1) call.auto.out)
       (code-parts (code s) (reduced s))
 

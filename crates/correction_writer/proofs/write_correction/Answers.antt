@@ -4,15 +4,15 @@ use Rattle.letters.specs.Lists.{bytes}
 use Rattle.correction_writer.proofs.Lines.{found-written, none_written}
 use Rattle.correction_writer.proofs.write_correction.Goals as goal
 
-pub returns-in-Found-clause-value : goal.returns-in-Found-clause-value
-returns-in-Found-clause-value c =
+pub returns-in-Some-clause-value : goal.returns-in-Some-clause-value
+returns-in-Some-clause-value c =
     c.write_letters.ensures.value
-    ∙ ap (λ after. after.answer) (found-written c.args.n c.args.out.now c.in-Found.p c.in-Found.is)
+    ∙ ap (λ after. after.answer) (found-written c.args.n c.args.out.now c.in-Some.p c.in-Some.is)
 
-pub returns-in-Found-clause-out_after : goal.returns-in-Found-clause-out_after
-returns-in-Found-clause-out_after c =
+pub returns-in-Some-clause-out_after : goal.returns-in-Some-clause-out_after
+returns-in-Some-clause-out_after c =
     c.write_letters.ensures.out_after
-    ∙ ap (λ after. after.buffer) (found-written c.args.n c.args.out.now c.in-Found.p c.in-Found.is)
+    ∙ ap (λ after. after.buffer) (found-written c.args.n c.args.out.now c.in-Some.p c.in-Some.is)
 
 pub returns-in-None-clause-value : goal.returns-in-None-clause-value
 unfolding bytes

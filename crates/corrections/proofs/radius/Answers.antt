@@ -1,12 +1,8 @@
 -- Without a distance the difference stops at 0.
-use native.Mathlib.Omega.{arith}
+use Rattle.std.proofs.Common.{arith}
 use Rattle.code_record.specs.Record.{radius}
 use Rattle.corrections.proofs.radius.Goals as goal
 
-pub returns-then-code-lt1 : goal.returns-then-code-lt1
+pub returns : goal.returns
 unfolding radius
-returns-then-code-lt1 c = omega arith
-
-pub returns-else-code-lt1 : goal.returns-else-code-lt1
-unfolding radius
-returns-else-code-lt1 c = omega arith
+returns c = omega (arith, c.saturating_sub.ensures)

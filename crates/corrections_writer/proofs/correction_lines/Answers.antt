@@ -22,29 +22,30 @@ use Rattle.corrections_writer.proofs.correction_lines.Goals as goal
 -- Each answer reads the line at the place as `told`. Its correction's line has `room`, and is as long as `counted`
 -- says.
 pub loop-place-init : goal.loop-place-init
-loop-place-init c = let a = c.args in answered-none a.words a.t a.r a.syndromes.now a.out.now
+loop-place-init c = let a = c.args in answered-none a.words.now a.t a.r a.syndromes.now a.out.now
 
 pub returns-in_default-clause-value : goal.returns-in_default-clause-value
 returns-in_default-clause-value c =
     let a = c.args in
     let l = c.loop-place in
     let told = sym (c.read_syndrome_line.ensures ∙ ap (mask_line a.r) (tail_of l.place a.syndromes.now)) in
-    (answered-off a.words a.t a.r a.syndromes.now a.out.now l.invariant (told ∙ c.in_default.is)).0
+    (answered-off a.words.now a.t a.r a.syndromes.now a.out.now l.invariant (told ∙ c.in_default.is)).0
 
 pub returns-in_default-clause-out_after : goal.returns-in_default-clause-out_after
 returns-in_default-clause-out_after c =
     let a = c.args in
     let l = c.loop-place in
     let told = sym (c.read_syndrome_line.ensures ∙ ap (mask_line a.r) (tail_of l.place a.syndromes.now)) in
-    (answered-off a.words a.t a.r a.syndromes.now a.out.now l.invariant (told ∙ c.in_default.is)).1
+    (answered-off a.words.now a.t a.r a.syndromes.now a.out.now l.invariant (told ∙ c.in_default.is)).1
 
-pub slice_bounds-write_correction-count : goal.slice_bounds-write_correction-count
-slice_bounds-write_correction-count c =
+pub slice_bounds-write_correction-end : goal.slice_bounds-write_correction-end
+slice_bounds-write_correction-end c =
     let a = c.args in
     let l = c.loop-place in
     let told = sym (c.read_syndrome_line.ensures ∙ ap (mask_line a.r) (tail_of l.place a.syndromes.now))
-    ∙ c.in-Mask.is in
-    let room = next-room a.words a.t a.r a.syndromes.now a.out.now l.invariant told c.requires.syndromes_in_bounds in
+    ∙ c.in-Some.is in
+    let room = next-room a.words.now a.t a.r a.syndromes.now a.out.now l.invariant told
+    c.requires.syndromes_in_bounds in
     omega (arith, room, l.invariant.held.size)
 
 pub slice_bounds-write_correction-start : goal.slice_bounds-write_correction-start
@@ -52,8 +53,9 @@ slice_bounds-write_correction-start c =
     let a = c.args in
     let l = c.loop-place in
     let told = sym (c.read_syndrome_line.ensures ∙ ap (mask_line a.r) (tail_of l.place a.syndromes.now))
-    ∙ c.in-Mask.is in
-    let room = next-room a.words a.t a.r a.syndromes.now a.out.now l.invariant told c.requires.syndromes_in_bounds in
+    ∙ c.in-Some.is in
+    let room = next-room a.words.now a.t a.r a.syndromes.now a.out.now l.invariant told
+    c.requires.syndromes_in_bounds in
     let inside : l.end ≤ length l.out = omega (arith, room, l.invariant.held.size) in inside
 
 pub overflow_add-end : goal.overflow_add-end
@@ -61,16 +63,18 @@ overflow_add-end c =
     let a = c.args in
     let l = c.loop-place in
     let told = sym (c.read_syndrome_line.ensures ∙ ap (mask_line a.r) (tail_of l.place a.syndromes.now))
-    ∙ c.in-Mask.is in
-    let room = next-room a.words a.t a.r a.syndromes.now a.out.now l.invariant told c.requires.syndromes_in_bounds in
-    let line-text : List ℕ = correction_text a.words.qubits c.correct_by-correction.result in
+    ∙ c.in-Some.is in
+    let room = next-room a.words.now a.t a.r a.syndromes.now a.out.now l.invariant told
+    c.requires.syndromes_in_bounds in
+    let line-text : List ℕ = correction_text a.words.now.qubits c.correct_by-correction.result in
     let part : List ℕ = lent l.end l.out in
-    let same_line : line-text ≡ line_for a.words a.t a.r c.in-Mask.syndrome =
-    ap (correction_text a.words.qubits) c.correct_by-correction.ensures in
-    let fits = next_fits a.words a.t a.r a.syndromes.now a.out.now l.invariant told c.requires.syndromes_in_bounds in
-    let whole = correction-has-room a.words.qubits c.requires.le_qubits c.requires.qubits_le_most_qubits
+    let same_line : line-text ≡ line_for a.words.now a.t a.r c.in-Some.syndrome =
+    ap (correction_text a.words.now.qubits) c.correct_by-correction.ensures in
+    let fits = next_fits a.words.now a.t a.r a.syndromes.now a.out.now l.invariant told
+    c.requires.syndromes_in_bounds in
+    let whole = correction-has-room a.words.now.qubits c.requires.le_qubits c.requires.qubits_le_most_qubits
     c.correct_by-correction.result part (omega (arith, ap length same_line, fits)) in
-    let counted = count-is line-text part whole c.write_correction.ensures.value c.count-end.ensures
+    let counted = count-is line-text part whole c.write_correction.ensures.value c.bytes_written-end.ensures
     ∙ ap length same_line in
     record { fits = omega (arith, room, counted, c.well_formed) }
 
@@ -79,7 +83,7 @@ overflow_add-place c =
     let a = c.args in
     let l = c.loop-place in
     let told = sym (c.read_syndrome_line.ensures ∙ ap (mask_line a.r) (tail_of l.place a.syndromes.now))
-    ∙ c.in-Mask.is in
+    ∙ c.in-Some.is in
     record { fits = omega (arith, mask-few a.r _ told) }
 
 pub overflow_add-place-in-loop-place : goal.overflow_add-place-in-loop-place
@@ -87,9 +91,9 @@ overflow_add-place-in-loop-place c =
     let a = c.args in
     let l = c.loop-place in
     let told = sym (c.read_syndrome_line.ensures ∙ ap (mask_line a.r) (tail_of l.place a.syndromes.now))
-    ∙ c.in-Mask.is in
+    ∙ c.in-Some.is in
     record {
-      fits = lt_of_le_of_lt (line-within a.words a.t a.r a.syndromes.now l.invariant.passed told) (search rules);
+      fits = lt_of_le_of_lt (line-within a.words.now a.t a.r a.syndromes.now l.invariant.passed told) (search rules);
     }
 
 pub loop-place-smaller : goal.loop-place-smaller
@@ -97,25 +101,26 @@ loop-place-smaller c =
     let a = c.args in
     let l = c.loop-place in
     let told = sym (c.read_syndrome_line.ensures ∙ ap (mask_line a.r) (tail_of l.place a.syndromes.now))
-    ∙ c.in-Mask.is in
-    omega (arith, line-within a.words a.t a.r a.syndromes.now l.invariant.passed told)
+    ∙ c.in-Some.is in
+    omega (arith, line-within a.words.now a.t a.r a.syndromes.now l.invariant.passed told)
 
 pub loop-place-preserved : goal.loop-place-preserved
 loop-place-preserved c =
     let a = c.args in
     let l = c.loop-place in
     let told = sym (c.read_syndrome_line.ensures ∙ ap (mask_line a.r) (tail_of l.place a.syndromes.now))
-    ∙ c.in-Mask.is in
-    let line-text : List ℕ = correction_text a.words.qubits c.correct_by-correction.result in
+    ∙ c.in-Some.is in
+    let line-text : List ℕ = correction_text a.words.now.qubits c.correct_by-correction.result in
     let part : List ℕ = lent l.end l.out in
-    let same_line : line-text ≡ line_for a.words a.t a.r c.in-Mask.syndrome =
-    ap (correction_text a.words.qubits) c.correct_by-correction.ensures in
-    let fits = next_fits a.words a.t a.r a.syndromes.now a.out.now l.invariant told c.requires.syndromes_in_bounds in
-    let whole = correction-has-room a.words.qubits c.requires.le_qubits c.requires.qubits_le_most_qubits
+    let same_line : line-text ≡ line_for a.words.now a.t a.r c.in-Some.syndrome =
+    ap (correction_text a.words.now.qubits) c.correct_by-correction.ensures in
+    let fits = next_fits a.words.now a.t a.r a.syndromes.now a.out.now l.invariant told
+    c.requires.syndromes_in_bounds in
+    let whole = correction-has-room a.words.now.qubits c.requires.le_qubits c.requires.qubits_le_most_qubits
     c.correct_by-correction.result part (omega (arith, ap length same_line, fits)) in
-    let counted = count-is line-text part whole c.write_correction.ensures.value c.count-end.ensures
+    let counted = count-is line-text part whole c.write_correction.ensures.value c.bytes_written-end.ensures
     ∙ ap length same_line in
-    answered-more a.words a.t a.r a.syndromes.now a.out.now l.invariant told c.requires.syndromes_in_bounds counted
+    answered-more a.words.now a.t a.r a.syndromes.now a.out.now l.invariant told c.requires.syndromes_in_bounds counted
     (content-is line-text part whole c.write_correction.ensures.out_after ∙ ap (λ (t : List ℕ). laid t part) same_line)
     c.write_correction.auto.out
 
@@ -123,10 +128,10 @@ pub returns-clause-value : goal.returns-clause-value
 returns-clause-value c =
     let a = c.args in
     let l = c.loop-place in
-    (answered-all a.words a.t a.r a.syndromes.now a.out.now l.invariant (search rules)).0
+    (answered-all a.words.now a.t a.r a.syndromes.now a.out.now l.invariant (search rules)).0
 
 pub returns-clause-out_after : goal.returns-clause-out_after
 returns-clause-out_after c =
     let a = c.args in
     let l = c.loop-place in
-    (answered-all a.words a.t a.r a.syndromes.now a.out.now l.invariant (search rules)).1
+    (answered-all a.words.now a.t a.r a.syndromes.now a.out.now l.invariant (search rules)).1

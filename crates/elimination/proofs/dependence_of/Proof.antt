@@ -1,15 +1,14 @@
 -- 7 and 8 are found at the first row that reduces to I by the rows before it, and there the elimination stops. Where it
 -- stops behind the last row, there is no fault.
+use Rattle.std.specs.Prelude.{Some, Result, Ok, Err}
 use mathlib.Core.Bool.{true}
 use mathlib.Core.List.{List, []}
-use mathlib.Core.Option.{some}
 use mathlib.Core.Path.{◌≡◌, refl, ap, ap₂, sym, ◌∙◌}
 use Prim.Native.Nat.{ℕ, ◌+◌, ◌<◌, ◌≤◌}
 use native.Mathlib.Omega.{arith}
 use lib.ListN.{length, take, get_or}
 use Rattle.pauli.specs.declared.Pauli.{Pauli}
 use Rattle.pauli.specs.Product.{identity, same_masks}
-use Rattle.refusals.specs.declared.Checked.{Checked}
 use Rattle.refusals.specs.declared.Refusal.{Refusal}
 use Rattle.code_record.specs.Record.{row_room, first_generator_at, is_row}
 use Rattle.record_limits.proofs.GeneratorLimits.{GeneratorLimits, generator-limits}
@@ -110,15 +109,15 @@ module _ (c : tie.After-kind_of) where
   phase = (stop row).stops (few other)
 
   faulty : {kind : Kind} {refusal : Refusal} → kind_of left ≡ kind
-      → kind_fault (first_generator_at + (hs row).count) kind ≡ some refusal
-      → some refusal ≡ first_fault dependence [] first_generator_at (take (r row) (g row))
+      → kind_fault (first_generator_at + (hs row).count) kind ≡ Some refusal
+      → Some refusal ≡ first_fault dependence [] first_generator_at (take (r row) (g row))
   faulty {kind} e f =
       stepped-fault (n row) first_generator_at (g row) (r row) (room row).0 (are-rows row) (commuting row)
       (stop row).stepped (few other) e
       (ap (λ (place : ℕ). kind_fault (first_generator_at + place) kind) (sym (count-is row)) ∙ f)
 
 -- ---- the needs
-not-passed : {A : Type 0} {refusal : Refusal} → Checked.Refused refusal ≡ Checked.Passed → A
+not-passed : {A : Type 0} {refusal : Refusal} → ◌≡◌ {A = Result Unit Refusal} (Err refusal) (Ok tt) → A
 not-passed e = absurd (let z : ◌≡◌ {A = ℕ} 0 1 = cc e in omega arith)
 
 returns : tie.Need-returns-then-place-r
@@ -134,7 +133,7 @@ returns-2 c =
     let kind = c.before in
     (faulty kind (not-minus (left kind) (phase kind) (told kind) c.in_default.in_default-own.keys2) refl, not-passed)
 
-returns-3 : tie.Need-returns
+returns-3 : tie.Need-returns-in-MinusIdentity
 returns-3 c =
     let kind = c.before in
     (faulty kind (sym (told kind) ∙ c.in-MinusIdentity.is) refl, not-passed)
@@ -144,4 +143,4 @@ dependence_of_spec =
     tie.close
     (tie.spec returns (λ c. record { fits = omega (arith, small c) })
     (λ c. record { fits = omega (arith, small c) }) (λ c. (small c).1) (λ c κs. search rules) (λ c κs. search rules)
-    (λ c. search rules) returns-2 returns-3)
+    (λ c. search rules) returns-3 returns-2)

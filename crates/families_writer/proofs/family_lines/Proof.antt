@@ -56,15 +56,15 @@ module _ (c : tie.After-pair_count-k) where
   more_z = ap (λ (count : ℕ). to_x code ++ rows_text 122 code.n (take count code.z)) c.pair_count-k.ensures
 
 -- ---- behind each call
-module _ (c : tie.After-count-end) where
+module _ (c : tie.After-bytes_written-end) where
   abbrev start : tie.After-pair_count-k
-  start = c.before.before.before.before.before.before.before.before
+  start = c.before.before.before.before.before.before
 
   abbrev out_g : List ℕ
   out_g = c.write_rows.new.out
 
   abbrev end_g : ℕ
-  end_g = c.count-end.result
+  end_g = c.bytes_written-end.result
 
   behind_g : Holds (to_g (code start)) (buffer start) out_g end_g
   unfolding generators
@@ -74,16 +74,16 @@ module _ (c : tie.After-count-end) where
       (qubits start).1 (fits_g start) in
       record {
         content = content-is (to_g (code start)) (buffer start) whole call.ensures.1;
-        count = count-is (to_g (code start)) (buffer start) whole call.ensures.0 c.count-end.ensures;
+        count = count-is (to_g (code start)) (buffer start) whole call.ensures.0 c.bytes_written-end.ensures;
         size = call.auto.out;
       }
 
   inside_g : end_g ≤ length out_g
   inside_g = end-within behind_g (fits_g start)
 
-module _ (c : tie.After-count-end-2) where
-  abbrev at_g : tie.After-count-end
-  at_g = c.before.before.before.before.before
+module _ (c : tie.After-bytes_written-end-2) where
+  abbrev at_g : tie.After-bytes_written-end
+  at_g = c.before.before.before.before.before.before
 
   abbrev s_x : tie.After-pair_count-k
   s_x = start at_g
@@ -92,7 +92,7 @@ module _ (c : tie.After-count-end-2) where
   out_x = back (end_g at_g) (out_g at_g) c.write_rows-2.new.out
 
   abbrev end_x : ℕ
-  end_x = end_g at_g + c.count-end-2.result
+  end_x = end_g at_g + c.bytes_written-end-2.result
 
   behind_x : Holds (to_x (code s_x)) (buffer s_x) out_x end_x
   behind_x =
@@ -101,30 +101,32 @@ module _ (c : tie.After-count-end-2) where
       let whole = rows-has-room 120 (code s_x).n (take (k s_x) (code s_x).x) part (qubits s_x).0 (qubits s_x).1
       (room-behind (behind_g at_g) (lines_x s_x) (omega (arith, fits_x s_x, ap length (more_x s_x)))) in
       holds_as
-      (holds_more (behind_g at_g) (lines_x s_x) (count-is (lines_x s_x) part whole call.ensures.0 c.count-end-2.ensures)
+      (holds_more (behind_g at_g) (lines_x s_x)
+      (count-is (lines_x s_x) part whole call.ensures.0 c.bytes_written-end-2.ensures)
       (content-is (lines_x s_x) part whole call.ensures.1) call.auto.out)
       (more_x s_x)
 
   inside_x : end_x ≤ length out_x
   inside_x = end-within behind_x (fits_x s_x)
 
-module _ (c : tie.After-count-end-3) where
-  abbrev at_x : tie.After-count-end-2
-  at_x = c.before.before.before.before.before
+module _ (c : tie.After-bytes_written-end-3) where
+  abbrev at_x : tie.After-bytes_written-end-2
+  at_x = c.before.before.before.before.before.before
 
   abbrev s : tie.After-pair_count-k
   s = s_x at_x
 
   behind_z : Holds (families_text (code s)) (buffer s)
       (back (end_x at_x) (out_x at_x) c.write_rows-3.new.out)
-      (end_x at_x + c.count-end-3.result)
+      (end_x at_x + c.bytes_written-end-3.result)
   behind_z =
       let call = c.write_rows-3 in
       let part = lent (end_x at_x) (out_x at_x) in
       let whole = rows-has-room 122 (code s).n (take (k s) (code s).z) part (qubits s).0 (qubits s).1
       (room-behind (behind_x at_x) (lines_z s) (omega (arith, fits_z s, ap length (more_z s)))) in
       holds_as
-      (holds_more (behind_x at_x) (lines_z s) (count-is (lines_z s) part whole call.ensures.0 c.count-end-3.ensures)
+      (holds_more (behind_x at_x) (lines_z s)
+      (count-is (lines_z s) part whole call.ensures.0 c.bytes_written-end-3.ensures)
       (content-is (lines_z s) part whole call.ensures.1) call.auto.out)
       (more_z s ∙ families-parts (code s))
 
@@ -142,6 +144,7 @@ returns c = ((behind_z c).count, (behind_z c).content)
 pub family_lines_spec : {M : Type 1} → statement M
 family_lines_spec =
     tie.close
-    (tie.spec (λ c κs. search rules) (λ c κs. search rules) (λ c κs. search rules) inside_g inside_g
-    (λ c. search rules) (λ c κs. search rules) (λ c κs. search rules) add-end inside_x inside_x (λ c. search rules)
-    (λ c κs. search rules) (λ c κs. search rules) add-end-2 (λ c. (behind_z c).size) returns)
+    (tie.spec (λ c κs. search rules) (λ c κs. search rules) (λ c κs. search rules) (λ c. inside_g c.before)
+    (λ c. inside_g c.before) (λ c. search rules) (λ c κs. search rules) (λ c κs. search rules) add-end
+    (λ c. inside_x c.before) (λ c. inside_x c.before) (λ c. search rules) (λ c κs. search rules)
+    (λ c κs. search rules) add-end-2 (λ c. (behind_z c).size) returns)

@@ -42,46 +42,47 @@ module _ (c : tie.Start) where
   front-has-room = front_fits front rest fits
 
 -- ---- behind n and k
-module _ (c : tie.After-count-end) where
+module _ (c : tie.After-bytes_written-end) where
   abbrev start : tie.Start
   start = c.before.before.before.before.before.before.before.before.before.before
 
   abbrev out : List ℕ
   out = c.write_numbers.new.out
 
-  behind-k : Holds (front start) (buffer start) out c.count-end.result
+  behind-k : Holds (front start) (buffer start) out c.bytes_written-end.result
   behind-k =
       let call = c.write_numbers in
       let whole = numbers-has-room _ (n start) _ (k start) (buffer start) (front-has-room start) in
       record {
         content = content-is (front start) (buffer start) whole call.ensures.1;
-        count = count-is (front start) (buffer start) whole call.ensures.0 c.count-end.ensures;
+        count = count-is (front start) (buffer start) whole call.ensures.0 c.bytes_written-end.ensures;
         size = call.auto.out;
       }
 
-  inside : c.count-end.result ≤ length out
+  inside : c.bytes_written-end.result ≤ length out
   inside = end-within behind-k (front-has-room start)
 
 -- ---- behind d and t
-module _ (c : tie.After-count-end-2) where
-  abbrev fronted : tie.After-count-end
+module _ (c : tie.After-bytes_written-end-2) where
+  abbrev fronted : tie.After-bytes_written-end
   fronted = c.before.before.before.before.before.before.before.before.before
 
   abbrev s : tie.Start
   s = start fronted
 
   abbrev end : ℕ
-  end = fronted.count-end.result
+  end = fronted.bytes_written-end.result
 
   behind-t : Holds (header_text (n s) (k s) (d s) (t s)) (buffer s)
       (back end (out fronted) c.write_numbers-2.new.out)
-      (end + c.count-end-2.result)
+      (end + c.bytes_written-end-2.result)
   behind-t =
       let call = c.write_numbers-2 in
       let part = lent end (out fronted) in
       let whole = numbers-has-room _ (d s) _ (t s) part (room-behind (behind-k fronted) (rest s) (fits s)) in
       holds_as
-      (holds_more (behind-k fronted) (rest s) (count-is (rest s) part whole call.ensures.0 c.count-end-2.ensures)
+      (holds_more (behind-k fronted) (rest s)
+      (count-is (rest s) part whole call.ensures.0 c.bytes_written-end-2.ensures)
       (content-is (rest s) part whole call.ensures.1) call.auto.out)
       (header-parts (n s) (k s) (d s) (t s))
 

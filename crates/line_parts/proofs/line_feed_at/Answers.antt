@@ -1,14 +1,18 @@
--- The place is behind the last byte, where no line feed is; or the byte at it decides.
-use mathlib.Core.Path.{refl, ap, sym}
+-- The byte at the place decides; behind the last byte there is no line feed.
+use mathlib.Core.Path.{refl, ap, sym, ◌∙◌}
+use borrow.Author.Tests.{le-ltb}
 use lib.Dec.{eqb}
-use lib.ListN.{get_or-eq_default}
+use lib.ListN.{length, get_or-eq_default}
 use Rattle.sheet.specs.Text.{line_feed}
 use Rattle.line_parts.proofs.line_feed_at.Goals as goal
 
-pub returns-then-s-place : goal.returns-then-s-place
+pub returns-then-place-s : goal.returns-then-place-s
 unfolding line_feed
-returns-then-s-place c = ap (λ x. eqb x 10) (sym (get_or-eq_default c.args.s.now 0 c.if-s-place.true))
+returns-then-place-s c = refl
 
-pub returns : goal.returns
+pub returns-else-place-s : goal.returns-else-place-s
 unfolding line_feed
-returns c = refl
+returns-else-place-s c =
+    let s = c.args.s.now in
+    le-ltb c.args.place (length s) c.if-place-s.false
+    ∙ ap (λ x. eqb x 10) (sym (get_or-eq_default s 0 c.if-place-s.false))

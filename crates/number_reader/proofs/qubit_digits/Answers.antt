@@ -8,6 +8,6 @@ pub returns-then-line_feed_at : goal.returns-then-line_feed_at
 unfolding qubit_digits
 returns-then-line_feed_at c = ap (λ b. cond b 1 2) (sym c.if-line_feed_at.true ∙ c.line_feed_at.ensures)
 
-pub returns : goal.returns
+pub returns-else-line_feed_at : goal.returns-else-line_feed_at
 unfolding qubit_digits
-returns c = ap (λ b. cond b 1 2) (sym c.if-line_feed_at.false ∙ c.line_feed_at.ensures)
+returns-else-line_feed_at c = ap (λ b. cond b 1 2) (sym c.if-line_feed_at.false ∙ c.line_feed_at.ensures)

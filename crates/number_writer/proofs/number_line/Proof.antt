@@ -26,32 +26,32 @@ module _ (c : tie.Start) where
   room = omega (arith, length-number_text key c.args.m, c.requires)
 
 -- ---- behind the key
-module _ (c : tie.After-count-end) where
+module _ (c : tie.After-bytes_written-end) where
   abbrev start : tie.Start
   start = c.before.before.before.before.before.before.before
 
   abbrev keyed-out : List ℕ
   keyed-out = c.write_text.new.out
 
-  keyed : Holds (key start) (buffer start) keyed-out c.count-end.result
+  keyed : Holds (key start) (buffer start) keyed-out c.bytes_written-end.result
   keyed =
       let call = c.write_text in
       let whole = written-whole (key start) (buffer start) refl (omega (arith, room start)) in
       record {
         content = content-is (key start) (buffer start) whole call.ensures.1;
-        count = count-is (key start) (buffer start) whole call.ensures.0 c.count-end.ensures;
+        count = count-is (key start) (buffer start) whole call.ensures.0 c.bytes_written-end.ensures;
         size = call.auto.out;
       }
 
 -- ---- behind the digits
-abbrev fronted : tie.After-digits-end → tie.After-count-end
+abbrev fronted : tie.After-digits-end → tie.After-bytes_written-end
 fronted c = c.before.before
 
 abbrev end : tie.After-digits-end → ℕ
-end c = (fronted c).count-end.result + c.digits-end.result
+end c = (fronted c).bytes_written-end.result + c.digits-end.result
 
 abbrev out : tie.After-digits-end → List ℕ
-out c = back (fronted c).count-end.result (keyed-out (fronted c)) c.digits-end.new.out
+out c = back (fronted c).bytes_written-end.result (keyed-out (fronted c)) c.digits-end.new.out
 
 module _ (c : tie.After-digits-end) where
   abbrev s : tie.Start

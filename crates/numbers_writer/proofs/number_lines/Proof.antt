@@ -40,46 +40,46 @@ module _ (c : tie.Start) where
   fits-first = front_fits line line' fits
 
 -- ---- behind the first line
-module _ (c : tie.After-count-end) where
+module _ (c : tie.After-bytes_written-end) where
   abbrev start : tie.Start
   start = c.before.before.before.before.before.before.before.before
 
   abbrev out : List ℕ
   out = c.write_number.new.out
 
-  fronted : Holds (line start) (buffer start) out c.count-end.result
+  fronted : Holds (line start) (buffer start) out c.bytes_written-end.result
   fronted =
       let call = c.write_number in
       let whole = number-has-room (key start) start.args.first (buffer start) (fits-first start) in
       record {
         content = content-is (line start) (buffer start) whole call.ensures.1;
-        count = count-is (line start) (buffer start) whole call.ensures.0 c.count-end.ensures;
+        count = count-is (line start) (buffer start) whole call.ensures.0 c.bytes_written-end.ensures;
         size = call.auto.out;
       }
 
-  inside : c.count-end.result ≤ length out
+  inside : c.bytes_written-end.result ≤ length out
   inside = end-within fronted (fits-first start)
 
 -- ---- behind the second
-module _ (c : tie.After-count-end-2) where
-  abbrev front : tie.After-count-end
+module _ (c : tie.After-bytes_written-end-2) where
+  abbrev front : tie.After-bytes_written-end
   front = c.before.before.before.before.before
 
   abbrev s : tie.Start
   s = start front
 
   abbrev end : ℕ
-  end = front.count-end.result
+  end = front.bytes_written-end.result
 
   behind-second : Holds (text s) (buffer s)
       (back end (out front) c.write_number-2.new.out)
-      (end + c.count-end-2.result)
+      (end + c.bytes_written-end-2.result)
   behind-second =
       let call = c.write_number-2 in
       let part = lent end (out front) in
       let whole = number-has-room (key' s) s.args.second part (room-behind (fronted front) (line' s) (fits s)) in
       holds_as
-      (holds_more (fronted front) (line' s) (count-is (line' s) part whole call.ensures.0 c.count-end-2.ensures)
+      (holds_more (fronted front) (line' s) (count-is (line' s) part whole call.ensures.0 c.bytes_written-end-2.ensures)
       (content-is (line' s) part whole call.ensures.1) call.auto.out)
       (numbers-text (key s) s.args.first (key' s) s.args.second)
 

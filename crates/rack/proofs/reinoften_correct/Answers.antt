@@ -6,4 +6,4 @@ use Rattle.rack.proofs.reinoften_correct.Goals as goal
 
 pub returns : goal.returns
 unfolding correct_call
-returns c = c.of_decoded.ensures ∙ ap correction_answer c.decode_mask.ensures
+returns c = c.from.ensures ∙ ap correction_answer c.decode_mask.ensures

@@ -1,4 +1,6 @@
 -- The answer of the call below, as numbers.
+use Rattle.refusals.specs.declared.Refusal.{Refusal}
+use Rattle.std.specs.Prelude.{Result, Ok, Err}
 use mathlib.Core.Path.{◌≡◌, refl, ap, ◌∙◌}
 use Prim.Native.Nat.{ℕ}
 use lib.ListN.{length}
@@ -10,11 +12,12 @@ use Rattle.rack.proofs.Lengths.{length-decoded}
 use Rattle.rack.proofs.reinoften_decode.Goals as goal
 
 -- The count that the call answers is n.
-counted : (n : ℕ) (answer : Decoded) → letters_answer (letters_decoded n answer) ≡ decoded_answer n answer
+counted : (n : ℕ) (answer : Result Decoded Refusal)
+    → letters_answer (letters_decoded n answer) ≡ decoded_answer n answer
 unfolding letters_decoded
-counted n Decoded.Correction = refl
-counted n Decoded.None = refl
-counted n (Decoded.Refused refusal) = refl
+counted n (Ok Decoded.Correction) = refl
+counted n (Ok Decoded.None) = refl
+counted n (Err refusal) = refl
 
 pub shape_of-out : goal.shape_of-out
 shape_of-out c =
@@ -24,4 +27,4 @@ pub returns : goal.returns
 unfolding decode_call in_numbers
 returns c =
     let made = c.decode_letters.ensures in
-    record { value = c.of_letters.ensures ∙ ap letters_answer made.value ∙ counted _ _; out_after = made.out_after }
+    record { value = c.from.ensures ∙ ap letters_answer made.value ∙ counted _ _; out_after = made.out_after }

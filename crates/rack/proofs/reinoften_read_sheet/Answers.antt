@@ -6,4 +6,4 @@ use Rattle.rack.proofs.reinoften_read_sheet.Goals as goal
 
 pub returns : goal.returns
 unfolding read_call
-returns c = c.of_reading.ensures ∙ ap sheet_answer c.read_sheet.ensures
+returns c = c.from.ensures ∙ ap sheet_answer c.read_sheet.ensures

@@ -16,4 +16,4 @@ pub returns : goal.returns
 unfolding sheet_call in_numbers
 returns c =
     let made = c.write_sheet.ensures in
-    record { value = c.of_written.ensures ∙ ap written_answer made.value; out_after = made.out_after }
+    record { value = c.from.ensures ∙ ap written_answer made.value; out_after = made.out_after }

@@ -1,13 +1,13 @@
 -- Whether a Pauli may be w: the masks are tried first, then the sign.
-use mathlib.Core.Path.{sym, ◌∙◌}
+use Rattle.std.proofs.Common.{arith}
+use Rattle.std.proofs.lemmas.Bool.Decides.{nat_tests}
 use Rattle.code_record.specs.Record.{is_claim}
-use Rattle.code_record.proofs.Tests.{and-true_l, and-false_l}
 use Rattle.record_limits.proofs.is_claim.Goals as goal
 
 pub returns-then-on_qubits : goal.returns-then-on_qubits
 unfolding is_claim
-returns-then-on_qubits c = c.has_sign.ensures ∙ and-true_l _ (sym c.on_qubits.ensures ∙ c.if-on_qubits.true)
+returns-then-on_qubits c = grind (arith, nat_tests)
 
 pub returns-else-on_qubits : goal.returns-else-on_qubits
 unfolding is_claim
-returns-else-on_qubits c = c.on_qubits.ensures ∙ and-false_l _ (sym c.on_qubits.ensures ∙ c.if-on_qubits.false)
+returns-else-on_qubits c = grind (arith, nat_tests)

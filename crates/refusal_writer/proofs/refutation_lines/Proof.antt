@@ -38,7 +38,7 @@ module _ (c : tie.Start) where
   fits_at = front_fits (numbers 14 at) (line_e at pair) fits_e
 
 -- ---- behind each call
-module _ (c : tie.After-count-end) where
+module _ (c : tie.After-bytes_written-end) where
   abbrev start : tie.Start
   start = c.before.before.before.before.before.before.before.before.before.before
 
@@ -46,7 +46,7 @@ module _ (c : tie.After-count-end) where
   out_at = c.write_numbers.new.out
 
   abbrev end_at : ℕ
-  end_at = c.count-end.result
+  end_at = c.bytes_written-end.result
 
   behind_at : Holds (numbers 14 (at start)) (buffer start) out_at end_at
   behind_at =
@@ -54,15 +54,15 @@ module _ (c : tie.After-count-end) where
       let whole = numbers-has-room _ 14 _ (at start) (buffer start) (fits_at start) in
       record {
         content = content-is (numbers 14 (at start)) (buffer start) whole call.ensures.1;
-        count = count-is (numbers 14 (at start)) (buffer start) whole call.ensures.0 c.count-end.ensures;
+        count = count-is (numbers 14 (at start)) (buffer start) whole call.ensures.0 c.bytes_written-end.ensures;
         size = call.auto.out;
       }
 
   inside_at : end_at ≤ length out_at
   inside_at = end-within behind_at (fits_at start)
 
-module _ (c : tie.After-count-end-2) where
-  abbrev front : tie.After-count-end
+module _ (c : tie.After-bytes_written-end-2) where
+  abbrev front : tie.After-bytes_written-end
   front = c.before.before.before.before.before.before
 
   abbrev s_e : tie.Start
@@ -72,7 +72,7 @@ module _ (c : tie.After-count-end-2) where
   out_e = back (end_at front) (out_at front) c.write_letters.new.out
 
   abbrev end_e : ℕ
-  end_e = end_at front + c.count-end-2.result
+  end_e = end_at front + c.bytes_written-end-2.result
 
   behind_e : Holds (to_e (at s_e) (pair s_e)) (buffer s_e) out_e end_e
   behind_e =
@@ -81,14 +81,14 @@ module _ (c : tie.After-count-end-2) where
       let text = line_e (at s_e) (pair s_e) in
       let whole = letters-has-room 101 (pair s_e).n (pair s_e).e part s_e.requires.0 s_e.requires.1.0
       (room-behind (behind_at front) text (fits_e s_e)) in
-      holds_more (behind_at front) text (count-is text part whole call.ensures.0 c.count-end-2.ensures)
+      holds_more (behind_at front) text (count-is text part whole call.ensures.0 c.bytes_written-end-2.ensures)
       (content-is text part whole call.ensures.1) call.auto.out
 
   inside_e : end_e ≤ length out_e
   inside_e = end-within behind_e (fits_e s_e)
 
-module _ (c : tie.After-count-end-3) where
-  abbrev at_e : tie.After-count-end-2
+module _ (c : tie.After-bytes_written-end-3) where
+  abbrev at_e : tie.After-bytes_written-end-2
   at_e = c.before.before.before.before.before.before
 
   abbrev s : tie.Start
@@ -96,7 +96,7 @@ module _ (c : tie.After-count-end-3) where
 
   behind_f : Holds (refusal_text (Refusal.DistanceRefuted (at s) (pair s))) (buffer s)
       (back (end_e at_e) (out_e at_e) c.write_letters-2.new.out)
-      (end_e at_e + c.count-end-3.result)
+      (end_e at_e + c.bytes_written-end-3.result)
   behind_f =
       let call = c.write_letters-2 in
       let part = lent (end_e at_e) (out_e at_e) in
@@ -104,7 +104,7 @@ module _ (c : tie.After-count-end-3) where
       let whole = letters-has-room 102 (pair s).n (pair s).f part s.requires.0 s.requires.1.0
       (room-behind (behind_e at_e) text (fits_f s)) in
       holds_as
-      (holds_more (behind_e at_e) text (count-is text part whole call.ensures.0 c.count-end-3.ensures)
+      (holds_more (behind_e at_e) text (count-is text part whole call.ensures.0 c.bytes_written-end-3.ensures)
       (content-is text part whole call.ensures.1) call.auto.out)
       (refutation-parts (at s) (pair s))
 

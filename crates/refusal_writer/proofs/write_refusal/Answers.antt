@@ -1,5 +1,5 @@
 -- 14 has a function of its own, and every other refusal is two numbers.
-use mathlib.Core.Option.{none}
+use Rattle.std.specs.Prelude.{None}
 use mathlib.Core.Path.{◌≡◌, refl}
 use Rattle.std.proofs.Common.{ℕ}
 use Rattle.refusals.specs.declared.ErrorPair.{ErrorPair}
@@ -17,7 +17,7 @@ use Rattle.refusal_writer.proofs.RefusalText.{plain-answers}
 use Rattle.refusal_writer.proofs.write_refusal.Goals as goal
 
 no-errors : (refusal : Refusal) → ((at : ℕ) (pair : ErrorPair) → refusal ≡ DistanceRefuted at pair → ⊥)
-    → (values refusal).errors ≡ none
+    → (values refusal).errors ≡ None
 no-errors TooLong _ = refl
 no-errors (Form at) _ = refl
 no-errors (QubitCount at) _ = refl

@@ -1,7 +1,7 @@
 -- No string of the weight on the qubits passed is found, nor one that begins with a letter passed at the next qubit.
+use Rattle.std.specs.Prelude.{None}
 use Rattle.std.proofs.Common.{◌≡◌, ◌+◌, ◌*◌, ◌-◌, sym, ◌∙◌, arith}
 use borrow.Author.Count.{below_more}
-use mathlib.Core.Option.{none}
 use Rattle.letters.specs.Letters.{struck_letter}
 use Rattle.letter_sums.proofs.Masks.{found_some, found_nothing, placed-found, nothing-found}
 use Rattle.letter_sums.proofs.Words.{behind, none-short, none-to-the-right, found_here, found_nowhere, masks-lt}
@@ -23,18 +23,18 @@ completion-behind-requires t c =
 
 pub placed-requires-clause-a_bound : goal.placed-requires-clause-a_bound
 placed-requires-clause-a_bound t c =
-    (masks-lt _ _ c.loop-right.right _ _ _ _ _ (found_some _ _ _ c.in-At.ensures)).0
+    (masks-lt _ _ c.loop-right.right _ _ _ _ _ (found_some _ _ _ c.in-Some.ensures)).0
 
 pub placed-requires-clause-b_bound : goal.placed-requires-clause-b_bound
 placed-requires-clause-b_bound t c =
-    (masks-lt _ _ c.loop-right.right _ _ _ _ _ (found_some _ _ _ c.in-At.ensures)).1
+    (masks-lt _ _ c.loop-right.right _ _ _ _ _ (found_some _ _ _ c.in-Some.ensures)).1
 
 pub loop-letter-preserved : goal.loop-letter-preserved
 loop-letter-preserved t c =
     let a = c.args in
     let right = c.loop-right.right in
     let letter = c.loop-letter.letter in
-    let Nothing = behind a.first.now a.second.now right (a.weight - 1) a.want a.shun letter ≡ none in
+    let Nothing = behind a.first.now a.second.now right (a.weight - 1) a.want a.shun letter ≡ None in
     let passed : Nothing =
     elim c.if-may_end.branch [
       | then-may_end+in_default w ↦ found_nothing _ w.in_default.ensures
@@ -51,12 +51,12 @@ loop-right-preserved t c =
     none-to-the-right a.first.now a.second.now c.loop-right.right a.weight a.want a.shun (omega arith)
     c.loop-right.invariant λ j h. c.loop-letter.invariant.1 j (omega arith)
 
-pub returns-in-At : goal.returns-in-At
-returns-in-At t c =
+pub returns-in-Some : goal.returns-in-Some
+returns-in-Some t c =
     let a = c.args in
     let right = c.loop-right.right in
     let letter = c.loop-letter.letter in
-    let told = found_some _ _ _ c.in-At.ensures in
+    let told = found_some _ _ _ c.in-Some.ensures in
     c.placed.ensures
     ∙ placed-found (a.qubits - right - 1) _ _ (struck_letter letter) told.string _ told.is_a told.is_b
     (found_here a.first.now a.second.now a.qubits a.weight a.want a.shun right letter told.string (omega arith)

@@ -1,5 +1,5 @@
+use Rattle.std.specs.Prelude.{None}
 use Rattle.std.proofs.Common.{◌≡◌, ◌≤◌}
-use mathlib.Core.Option.{none}
 use Rattle.letter_sums.specs.Sums.{earliest_of}
 use Rattle.letter_sums.proofs.Words.{NoneBelow}
 use Rattle.search.proofs.+completion.Given as goal
@@ -9,14 +9,8 @@ decreases-completion l = l.weight
 
 abbrev pub invariant-loop-right : goal.invariant-loop-right
 invariant-loop-right l =
-    earliest_of l.first l.second l.right l.weight l.want l.shun ≡ none
+    earliest_of l.first l.second l.right l.weight l.want l.shun ≡ None
 
 abbrev pub invariant-loop-letter : goal.invariant-loop-letter
 invariant-loop-letter l =
     (l.letter ≤ 3) × NoneBelow l.first l.second l.right l.letters l.want l.shun l.letter
-
-abbrev pub invariant-search : goal.invariant-search
-invariant-search l = Unit {0}
-
-abbrev pub decreases-search : goal.decreases-search
-decreases-search l = 0

@@ -4,9 +4,3 @@ use Rattle.search.proofs.lone.Given as goal
 
 abbrev pub invariant-loop-place : goal.invariant-loop-place
 invariant-loop-place l = (j : ℕ) → j < l.place → PassedOver l.first l.second l.want l.shun j
-
-abbrev pub invariant-search : goal.invariant-search
-invariant-search l = Unit {0}
-
-abbrev pub decreases-search : goal.decreases-search
-decreases-search l = 0

@@ -1,4 +1,5 @@
 -- Each turn reads one line; what was read stands before what the rest gives.
+use Rattle.std.specs.Prelude.{Some}
 use mathlib.Core.Path.{◌≡◌, ap, sym, ◌∙◌}
 use Prim.Native.Nat.{◌+◌, ◌≤◌}
 use native.Mathlib.Nat.{lt_of_le_of_lt}
@@ -6,7 +7,6 @@ use native.Mathlib.Omega.{arith}
 use borrow.Author.Rules.{rules}
 use lib.ListN.{length, drop}
 use Rattle.sheet.proofs.Parts.{tail_of}
-use Rattle.syndrome_reader.specs.declared.SyndromeRead.{SyndromeRead}
 use Rattle.syndrome_lines.specs.SyndromeLines.{mask_line}
 use Rattle.syndrome_lines.proofs.Lines.{mask-few, line-within}
 use Rattle.syndrome_lines.proofs.Lines.{checked-none, checked-more, checked-off, checked-all}
@@ -29,7 +29,7 @@ overflow_add-end c =
     let s = c.args.s.now in
     let line : mask_line c.args.r (drop e s) ≡ c.read_syndrome_line.result =
     sym (c.read_syndrome_line.ensures ∙ ap (mask_line c.args.r) (tail_of e s)) in
-    let read : mask_line c.args.r (drop e s) ≡ SyndromeRead.Mask c.in-Mask.field-0 = line ∙ c.in-Mask.is in
+    let read : mask_line c.args.r (drop e s) ≡ Some c.in-Some.field-0 = line ∙ c.in-Some.is in
     omega (arith, mask-few c.args.r _ read)
 
 pub overflow_add-end-in-loop-end : goal.overflow_add-end-in-loop-end
@@ -38,7 +38,7 @@ overflow_add-end-in-loop-end c =
     let s = c.args.s.now in
     let line : mask_line c.args.r (drop e s) ≡ c.read_syndrome_line.result =
     sym (c.read_syndrome_line.ensures ∙ ap (mask_line c.args.r) (tail_of e s)) in
-    let read : mask_line c.args.r (drop e s) ≡ SyndromeRead.Mask c.in-Mask.field-0 = line ∙ c.in-Mask.is in
+    let read : mask_line c.args.r (drop e s) ≡ Some c.in-Some.field-0 = line ∙ c.in-Some.is in
     let within : e + (c.args.r + 3) ≤ length s = line-within c.args.r s c.loop-end.invariant read in
     record { fits = lt_of_le_of_lt within c.well_formed.0.0 }
 
@@ -48,7 +48,7 @@ overflow_add-count c =
     let s = c.args.s.now in
     let line : mask_line c.args.r (drop e s) ≡ c.read_syndrome_line.result =
     sym (c.read_syndrome_line.ensures ∙ ap (mask_line c.args.r) (tail_of e s)) in
-    let read : mask_line c.args.r (drop e s) ≡ SyndromeRead.Mask c.in-Mask.field-0 = line ∙ c.in-Mask.is in
+    let read : mask_line c.args.r (drop e s) ≡ Some c.in-Some.field-0 = line ∙ c.in-Some.is in
     let within : e + (c.args.r + 3) ≤ length s = line-within c.args.r s c.loop-end.invariant read in
     let fewer : c.loop-end.count + 1 ≤ length s = omega (arith, within, c.loop-end.invariant.few) in
     record { fits = lt_of_le_of_lt fewer c.well_formed.0.0 }
@@ -59,7 +59,7 @@ loop-end-smaller c =
     let s = c.args.s.now in
     let line : mask_line c.args.r (drop e s) ≡ c.read_syndrome_line.result =
     sym (c.read_syndrome_line.ensures ∙ ap (mask_line c.args.r) (tail_of e s)) in
-    let read : mask_line c.args.r (drop e s) ≡ SyndromeRead.Mask c.in-Mask.field-0 = line ∙ c.in-Mask.is in
+    let read : mask_line c.args.r (drop e s) ≡ Some c.in-Some.field-0 = line ∙ c.in-Some.is in
     let within : e + (c.args.r + 3) ≤ length s = line-within c.args.r s c.loop-end.invariant read in
     omega (arith, within)
 
@@ -69,7 +69,7 @@ loop-end-preserved c =
     let s = c.args.s.now in
     let line : mask_line c.args.r (drop e s) ≡ c.read_syndrome_line.result =
     sym (c.read_syndrome_line.ensures ∙ ap (mask_line c.args.r) (tail_of e s)) in
-    let read : mask_line c.args.r (drop e s) ≡ SyndromeRead.Mask c.in-Mask.field-0 = line ∙ c.in-Mask.is in
+    let read : mask_line c.args.r (drop e s) ≡ Some c.in-Some.field-0 = line ∙ c.in-Some.is in
     checked-more c.args.r s c.loop-end.invariant read
 
 pub returns : goal.returns

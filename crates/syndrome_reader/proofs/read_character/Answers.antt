@@ -1,7 +1,8 @@
 -- The character is 0 or 1, or none of them.
+use borrow.Author.Rules.{rules}
+use Rattle.letters.specs.Options.{bind}
 use mathlib.Core.Bool.{true, false}
 use mathlib.Core.List.{[], ◌∷◌}
-use mathlib.Core.Option.{bind}
 use mathlib.Core.Path.{ap, sym, ◌∙◌}
 use Rattle.letters.specs.Lists.{first_of, read_byte}
 use Rattle.letters.proofs.Lists.{read_byte-skip}
@@ -26,5 +27,5 @@ returns-in_default c =
     let character = c.args.c in
     sym
     (character-malformed character
-    (read_byte-skip bit_byte false (true ∷ []) character c.in_default.in_default-own.rest.0.1
-    ∙ read_byte-skip bit_byte true [] character c.in_default.in_default-own.rest.1))
+    (read_byte-skip bit_byte false (true ∷ []) character (search rules)
+    ∙ read_byte-skip bit_byte true [] character (search rules)))

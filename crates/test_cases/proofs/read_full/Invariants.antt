@@ -1,5 +1,5 @@
 -- Each turn reads behind what is there, and the place stays within the buffer.
-use Rattle.std.proofs.Common.{◌≡◌, ◌-◌, ◌≤◌, length}
+use Rattle.std.proofs.Common.{◌-◌, ◌≤◌, length}
 use Rattle.test_cases.proofs.read_full.Given as goal
 
 abbrev pub invariant-loop-end : goal.invariant-loop-end

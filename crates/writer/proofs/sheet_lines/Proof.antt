@@ -48,7 +48,7 @@ module _ (c : tie.Start) where
   fits_numbers = front_fits (numbers code) rows fits_rows
 
 -- ---- behind each call
-module _ (c : tie.After-count-end) where
+module _ (c : tie.After-bytes_written-end) where
   abbrev start : tie.Start
   start = c.before.before.before.before.before.before.before.before.before.before
 
@@ -56,7 +56,7 @@ module _ (c : tie.After-count-end) where
   out_n = c.write_numbers.new.out
 
   abbrev end_n : ℕ
-  end_n = c.count-end.result
+  end_n = c.bytes_written-end.result
 
   behind_numbers : Holds (numbers (code start)) (buffer start) out_n end_n
   behind_numbers =
@@ -64,15 +64,15 @@ module _ (c : tie.After-count-end) where
       let whole = numbers-has-room _ (code start).n _ (code start).d (buffer start) (fits_numbers start) in
       record {
         content = content-is (numbers (code start)) (buffer start) whole call.ensures.1;
-        count = count-is (numbers (code start)) (buffer start) whole call.ensures.0 c.count-end.ensures;
+        count = count-is (numbers (code start)) (buffer start) whole call.ensures.0 c.bytes_written-end.ensures;
         size = call.auto.out;
       }
 
   inside_n : end_n ≤ length out_n
   inside_n = end-within behind_numbers (fits_numbers start)
 
-module _ (c : tie.After-count-end-2) where
-  abbrev at_n : tie.After-count-end
+module _ (c : tie.After-bytes_written-end-2) where
+  abbrev at_n : tie.After-bytes_written-end
   at_n = c.before.before.before.before.before
 
   abbrev s_r : tie.Start
@@ -82,7 +82,7 @@ module _ (c : tie.After-count-end-2) where
   out_r = back (end_n at_n) (out_n at_n) c.write_families.new.out
 
   abbrev end_r : ℕ
-  end_r = end_n at_n + c.count-end-2.result
+  end_r = end_n at_n + c.bytes_written-end-2.result
 
   behind_rows : Holds (to_rows (code s_r)) (buffer s_r) out_r end_r
   behind_rows =
@@ -90,14 +90,15 @@ module _ (c : tie.After-count-end-2) where
       let part = lent (end_n at_n) (out_n at_n) in
       let whole = families-has-room (code s_r) part (qubits s_r).0 (qubits s_r).1
       (room-behind (behind_numbers at_n) (rows s_r) (fits_rows s_r)) in
-      holds_more (behind_numbers at_n) (rows s_r) (count-is (rows s_r) part whole call.ensures.0 c.count-end-2.ensures)
+      holds_more (behind_numbers at_n) (rows s_r)
+      (count-is (rows s_r) part whole call.ensures.0 c.bytes_written-end-2.ensures)
       (content-is (rows s_r) part whole call.ensures.1) call.auto.out
 
   inside_r : end_r ≤ length out_r
   inside_r = end-within behind_rows (fits_rows s_r)
 
-module _ (c : tie.After-count-end-3) where
-  abbrev at_r : tie.After-count-end-2
+module _ (c : tie.After-bytes_written-end-3) where
+  abbrev at_r : tie.After-bytes_written-end-2
   at_r = c.before.before.before.before.before.before
 
   abbrev s : tie.Start
@@ -105,14 +106,15 @@ module _ (c : tie.After-count-end-3) where
 
   behind_w : Holds (sheet_text (code s)) (buffer s)
       (back (end_r at_r) (out_r at_r) c.write_letters.new.out)
-      (end_r at_r + c.count-end-3.result)
+      (end_r at_r + c.bytes_written-end-3.result)
   behind_w =
       let call = c.write_letters in
       let part = lent (end_r at_r) (out_r at_r) in
       let whole = letters-has-room 119 (code s).n (code s).w part (qubits s).0 (qubits s).1
       (room-behind (behind_rows at_r) (claim s) (fits_w s)) in
       holds_as
-      (holds_more (behind_rows at_r) (claim s) (count-is (claim s) part whole call.ensures.0 c.count-end-3.ensures)
+      (holds_more (behind_rows at_r) (claim s)
+      (count-is (claim s) part whole call.ensures.0 c.bytes_written-end-3.ensures)
       (content-is (claim s) part whole call.ensures.1) call.auto.out)
       (sheet-parts (code s))
 

@@ -10,24 +10,16 @@ chosen x z u v ex ez = ap₂ letter_at (sym ex) (sym ez)
 
 pub returns-in-0 : goal.returns-in-0
 unfolding letter_at
-returns-in-0 c =
-    chosen c.args.x c.args.z 0 0 (omega (arith, c.in-0.is))
-    (omega (arith, c.in-0.is))
+returns-in-0 c = chosen c.args.x c.args.z 0 0 (omega arith) (omega arith)
 
 pub returns-in-1 : goal.returns-in-1
 unfolding letter_at
-returns-in-1 c =
-    chosen c.args.x c.args.z 1 0 (omega (arith, c.in-1.is))
-    (omega (arith, c.in-1.is))
+returns-in-1 c = chosen c.args.x c.args.z 1 0 (omega arith) (omega arith)
 
 pub returns-in-2 : goal.returns-in-2
 unfolding letter_at
-returns-in-2 c =
-    chosen c.args.x c.args.z 0 1 (omega (arith, c.in-2.is))
-    (omega (arith, c.in-2.is))
+returns-in-2 c = chosen c.args.x c.args.z 0 1 (omega arith) (omega arith)
 
 pub returns-in_default : goal.returns-in_default
 unfolding letter_at
-returns-in_default c =
-    chosen c.args.x c.args.z 1 1 (omega (arith, c.in_default.in_default-own.rest))
-    (omega (arith, c.in_default.in_default-own.rest))
+returns-in_default c = chosen c.args.x c.args.z 1 1 (omega arith) (omega arith)

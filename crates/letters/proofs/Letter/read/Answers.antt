@@ -1,5 +1,6 @@
 -- The byte is one of the four, or none of them.
 use mathlib.Core.Path.{ap, sym, ◌∙◌}
+use borrow.Author.Rules.{rules}
 use mathlib.Core.List.{[], ◌∷◌}
 use Rattle.letters.specs.declared.Letter.TheVariants.{I, X, Y, Z}
 use Rattle.letters.specs.Letters.{letter_byte, read_letter}
@@ -27,7 +28,7 @@ pub returns-in_default : goal.returns-in_default
 unfolding read_letter read_byte first_of
 returns-in_default c =
     sym
-    (read_byte-skip letter_byte I (X ∷ Y ∷ Z ∷ []) c.args.c c.in_default.in_default-own.rest.0.0.0.1
-    ∙ read_byte-skip letter_byte X (Y ∷ Z ∷ []) c.args.c c.in_default.in_default-own.rest.0.0.1
-    ∙ read_byte-skip letter_byte Y (Z ∷ []) c.args.c c.in_default.in_default-own.rest.0.1
-    ∙ read_byte-skip letter_byte Z [] c.args.c c.in_default.in_default-own.rest.1)
+    (read_byte-skip letter_byte I (X ∷ Y ∷ Z ∷ []) c.args.c (search rules)
+    ∙ read_byte-skip letter_byte X (Y ∷ Z ∷ []) c.args.c (search rules)
+    ∙ read_byte-skip letter_byte Y (Z ∷ []) c.args.c (search rules)
+    ∙ read_byte-skip letter_byte Z [] c.args.c (search rules))

@@ -1,6 +1,7 @@
 -- The arm taken gives the number, and it names the letter.
 use mathlib.Core.Path.{◌≡◌, refl, ap, sym}
 use Prim.Native.Nat.{ℕ, zero, suc}
+use borrow.Author.Rules.{rules}
 use Rattle.letters.specs.declared.Letter.TheVariants.{Z}
 use Rattle.letters.specs.Letters.{struck_letter}
 use Rattle.letters.proofs.Letter.struck.Goals as goal
@@ -20,4 +21,4 @@ unfolding struck_letter
 returns-in-1 c = ap struck_letter (sym c.in-1.is)
 
 pub returns-in_default : goal.returns-in_default
-returns-in_default c = last c.args.number c.in_default.in_default-own.rest.0.1 c.in_default.in_default-own.rest.1
+returns-in_default c = last c.args.number (search rules) (search rules)

@@ -1,5 +1,6 @@
 -- The byte is one of the two, or neither.
 use mathlib.Core.Path.{ap, sym, ◌∙◌}
+use borrow.Author.Rules.{rules}
 use mathlib.Core.List.{[], ◌∷◌}
 use Rattle.letters.specs.declared.Sign.TheVariants.{Plus, Minus}
 use Rattle.letters.specs.Letters.{sign_byte, read_sign}
@@ -19,5 +20,5 @@ pub returns-in_default : goal.returns-in_default
 unfolding read_sign read_byte first_of
 returns-in_default c =
     sym
-    (read_byte-skip sign_byte Plus (Minus ∷ []) c.args.c c.in_default.in_default-own.rest.0.1
-    ∙ read_byte-skip sign_byte Minus [] c.args.c c.in_default.in_default-own.rest.1)
+    (read_byte-skip sign_byte Plus (Minus ∷ []) c.args.c (search rules)
+    ∙ read_byte-skip sign_byte Minus [] c.args.c (search rules))

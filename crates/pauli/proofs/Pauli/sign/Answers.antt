@@ -9,6 +9,6 @@ pub returns-then-has_sign : goal.returns-then-has_sign
 unfolding sign_of
 returns-then-has_sign c = ap (λ (plus : Bool). cond plus Plus Minus) (sym c.if-has_sign.true ∙ c.has_sign.ensures)
 
-pub returns : goal.returns
+pub returns-else-has_sign : goal.returns-else-has_sign
 unfolding sign_of
-returns c = ap (λ (plus : Bool). cond plus Plus Minus) (sym c.if-has_sign.false ∙ c.has_sign.ensures)
+returns-else-has_sign c = ap (λ (plus : Bool). cond plus Plus Minus) (sym c.if-has_sign.false ∙ c.has_sign.ensures)
