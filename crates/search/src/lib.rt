@@ -58,6 +58,10 @@ fn completion(
     if weight == 0 {
         return identity(want, shun);
     }
+    // One letter is a scan of the words. So the walk below always leaves a letter, and has one test less a candidate.
+    if weight == 1 {
+        return lone(first, second, qubits, want, shun);
+    }
     let letters = weight - 1;
     'search: {
         for right in letters..qubits {

@@ -1,13 +1,21 @@
 -- No string of the weight on the qubits passed is found, nor one that begins with a letter passed at the next qubit.
 use Rattle.std.specs.Prelude.{None}
-use Rattle.std.proofs.Common.{◌≡◌, ◌+◌, ◌*◌, ◌-◌, sym, ◌∙◌, arith}
+use Rattle.std.proofs.Common.{◌≡◌, ℕ, ◌+◌, ◌*◌, ◌-◌, sym, ap, ◌∙◌, arith}
 use borrow.Author.Count.{below_more}
 use Rattle.letters.specs.Letters.{struck_letter}
+use Rattle.letter_sums.specs.Sums.{found_as, earliest_of}
 use Rattle.letter_sums.proofs.Masks.{found_some, found_nothing, placed-found, nothing-found}
 use Rattle.letter_sums.proofs.Words.{behind, none-short, none-to-the-right, found_here, found_nowhere, masks-lt}
 use Rattle.word_filter.proofs.Tables.{fewer-told, none-ended}
 use Rattle.search.proofs.+completion.Goals as goal
 use Rattle.search.proofs.+completion.Goals.{then-may_end+in_default, else-may_end}
+
+pub returns-then-weight-eq1 : goal.returns-then-weight-eq1
+returns-then-weight-eq1 t c =
+    let a = c.args in
+    c.lone.ensures
+    ∙ ap (λ (weight : ℕ). found_as (earliest_of a.first.now a.second.now a.qubits weight a.want a.shun))
+    (sym c.if-weight-eq1.true)
 
 pub loop-right-init : goal.loop-right-init
 loop-right-init t c =
