@@ -15,6 +15,8 @@ pub fn write_text(text: &[u8], out: &mut [u8]) -> Result<usize, Refusal>
     if out.len() < text.len() {
         return Err(Refusal::ShortBuffer);
     }
-    out[..text.len()].copy_from_slice(text);
+    for place in 0..text.len() {
+        out[place] = text[place];
+    }
     Ok(text.len())
 }
