@@ -2,14 +2,16 @@
 use Rattle.std.specs.Prelude.{Option, Some, None}
 use mathlib.Core.Bool.{Bool, true, false, cond, ◌&&◌, and-false, false≢true}
 use mathlib.Core.List.{List, [], ◌∷◌}
-use mathlib.Core.Path.{◌≡◌, refl, ap, sym, ◌∙◌}
+use mathlib.Core.Path.{◌≡◌, refl, ap, sym, subst, ◌∙◌}
 use Prim.Native.Nat.{ℕ, ◌<◌}
 use native.Mathlib.Omega.{arith}
 use borrow.Author.Rules.{rules}
 use borrow.Author.Tests.{eqb-true, eq-eqb, ne_eqb}
+use denote.Enum.Declared.{tag_of}
 use denote.Enum.Bare.{sameb, same_true, same_false}
 use lib.Dec.{eqb}
 use lib.ListN.{take, get_or}
+use types.Run.{OneOf, miss}
 use Rattle.letters.specs.Lists.{bytes, read_byte, first_of}
 use Rattle.refusals.specs.declared.Family.{Family}
 use Rattle.refusals.specs.Families.{row_key}
@@ -103,6 +105,30 @@ module _ (k : LineKind) where
       let h = both _ _ e in
       let key = eqb-true (kind_byte k) c h.0 in
       let equals = eqb-true 61 d (both _ _ h.1).0 in (λ i. key i ∷ equals i ∷ [])
+
+-- The places of the other kinds in the table, and that a line whose kind is at one of them is of another kind.
+abbrev others : LineKind → List ℕ
+others Qubits = 1 ∷ 2 ∷ 3 ∷ 4 ∷ 5 ∷ 6 ∷ 7 ∷ []
+others Distance = 0 ∷ 2 ∷ 3 ∷ 4 ∷ 5 ∷ 6 ∷ 7 ∷ []
+others Generator = 0 ∷ 1 ∷ 3 ∷ 4 ∷ 5 ∷ 6 ∷ 7 ∷ []
+others LogicalX = 0 ∷ 1 ∷ 2 ∷ 4 ∷ 5 ∷ 6 ∷ 7 ∷ []
+others LogicalZ = 0 ∷ 1 ∷ 2 ∷ 3 ∷ 5 ∷ 6 ∷ 7 ∷ []
+others Claim = 0 ∷ 1 ∷ 2 ∷ 3 ∷ 4 ∷ 6 ∷ 7 ∷ []
+others Syndrome = 0 ∷ 1 ∷ 2 ∷ 3 ∷ 4 ∷ 5 ∷ 7 ∷ []
+others Other = 0 ∷ 1 ∷ 2 ∷ 3 ∷ 4 ∷ 5 ∷ 6 ∷ []
+
+pub other-kind : (k : LineKind) {kind : LineKind} → OneOf (others k) (tag_of the_type kind) → kind ≡ k → ⊥
+other-kind k h e = apart k (subst (λ x. OneOf (others k) (tag_of the_type x)) e h)
+  where
+    apart : (k : LineKind) → OneOf (others k) (tag_of the_type k) → ⊥
+    apart Qubits = miss (others Qubits) 0 tt
+    apart Distance = miss (others Distance) 1 tt
+    apart Generator = miss (others Generator) 2 tt
+    apart LogicalX = miss (others LogicalX) 3 tt
+    apart LogicalZ = miss (others LogicalZ) 4 tt
+    apart Claim = miss (others Claim) 5 tt
+    apart Syndrome = miss (others Syndrome) 6 tt
+    apart Other = miss (others Other) 7 tt
 
 -- ---- the rows of a family
 

@@ -50,6 +50,11 @@ lowest-of-odd : (k m : ℕ) → without_lowest (suc k) (1 + 2 * m) ≡ 2 * witho
 unfolding without_lowest
 lowest-of-odd k m = ap (without_lowest k) (one-of-odd m) ∙ lowest-of-even k m
 
+pub lowest-of-none : (k : ℕ) → without_lowest k 0 ≡ 0
+unfolding without_lowest without_one
+lowest-of-none zero = refl
+lowest-of-none (suc k) = lowest-of-none k
+
 -- A mask with its lowest bit: one fewer is taken from the others where that bit is a one.
 lowest-joined : (k x m : ℕ) → x < 2 → without_lowest (suc k) (x + 2 * m) ≡ 2 * without_lowest (suc k - x) m
 lowest-joined k zero m h =
