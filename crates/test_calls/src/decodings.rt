@@ -5,8 +5,8 @@
 ghost use Rattle.std.specs.Prelude.{◌≤◌, length};
 
 use crate::sheets::print_row;
+use crate::thrice;
 use crate::words::read_row;
-use crate::written::thrice;
 use code_record::Code;
 use decoder::Decoded;
 use pauli::Pauli;

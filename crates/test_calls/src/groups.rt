@@ -5,7 +5,7 @@
 // mask.
 ghost use Rattle.std.specs.Prelude.{◌≤◌};
 
-use crate::written::write_thrice;
+use crate::written::{Writer, write_thrice};
 use code_record::{Code, pair_count};
 use pauli::Pauli;
 use reduced_rows::ReducedRows;
@@ -26,7 +26,7 @@ pub fn answer_group(rt: &HostRuntime, text: &[u8], change: usize) {
     }
     print_probes(rt, changed, reduced, n, r);
     let lines = lines_length(n, r);
-    write_thrice(rt, lines, |out| canonical::write_canonical(changed, out));
+    write_thrice(rt, Writer::Canonical, changed, lines);
 }
 
 // How many bytes the lines of r rows of n letters have. In a record that was read both are small, and the remainders

@@ -2,7 +2,7 @@
 // and a line feed. The answer is the product of the rows from left to right, whether the last row commutes with the
 // product of those before it, and the product's weight: "-YY commutes 2". A line with anything else is answered "not
 // rows".
-use crate::words::{Row, read_row, unmarked};
+use crate::words::{Row, read_row};
 use pauli::Pauli;
 use test_cases::print;
 
@@ -71,5 +71,13 @@ fn print_phase(rt: &HostRuntime, p: Pauli) {
 fn print_letters(rt: &HostRuntime, p: Pauli, width: u32) {
     for place in 0..width {
         print(rt, &[p.letter_on(place as usize).byte()]);
+    }
+}
+
+// A part of a text without the mark behind it, a space or a line feed. The last part may have none.
+fn unmarked(part: &[u8]) -> &[u8] {
+    match part {
+        [bare @ .., b' ' | b'\n'] => bare,
+        _ => part,
     }
 }

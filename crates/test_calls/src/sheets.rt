@@ -2,7 +2,7 @@
 // the record is not to be changed, nothing more. Else it goes on with numbers and rows of the record, what is behind
 // the lines, and what the reader of a sheet by itself says; then the record is changed, and written into buffers
 // about as long as the lines.
-use crate::written::write_thrice;
+use crate::written::{Writer, write_thrice};
 use code_record::{Code, LinesReading};
 use pauli::Pauli;
 use refusals::Family;
@@ -23,7 +23,7 @@ pub fn answer_sheet(rt: &HostRuntime, text: &[u8], change: usize) {
     print_behind(rt, sheet_end::behind(text, answer));
     answer_alone(rt, text);
     let changed = changed(code, change);
-    write_thrice(rt, used, |out| writer::write_sheet(changed, out));
+    write_thrice(rt, Writer::Sheet, changed, used);
 }
 
 fn answer_alone(rt: &HostRuntime, text: &[u8]) {

@@ -9,14 +9,6 @@ pub struct Row {
     pub width: u32,
 }
 
-// A part of a text without the mark behind it, a space or a line feed. The last part may have none.
-pub fn unmarked(part: &[u8]) -> &[u8] {
-    match part {
-        [bare @ .., b' ' | b'\n'] => bare,
-        _ => part,
-    }
-}
-
 // A sign and up to 32 letters.
 pub fn read_row(word: &[u8]) -> Option<Row> {
     let (sign, letters) = word.split_first()?;

@@ -1,46 +1,41 @@
-// What a call does with buffers of three lengths.
-ghost use Rattle.std.specs.Prelude.{◌≤◌};
-ghost use Rattle.test_cases.specs.Cases.{buffer_room};
-
-use code_record::LONGEST_SHEET;
+// What a writer does with buffers of three lengths.
+use crate::thrice;
+use code_record::Code;
+use pauli::Pauli;
 use refusals::Refusal;
-use test_cases::{dots, print, print_buffer, print_written};
+use test_cases::print_written;
 
-// A buffer of a byte less than is used is lent, one of as many, and one of three more. `write` prints what the call
-// answers. No lines take more bytes than the longest sheet, so the test never holds; it says to the proof that there
-// are as many dots.
-pub fn thrice<F: Fn(&mut [u8])>(rt: &HostRuntime, used: usize, write: F)
-    requires { F.IsAlwaysCallable write }
-{
-    if LONGEST_SHEET < used {
-        return;
-    }
-    print(rt, b"short");
-    lend(rt, used.saturating_sub(1), &write);
-    print(rt, b"exact");
-    lend(rt, used, &write);
-    print(rt, b"longer");
-    lend(rt, used + 3, &write);
+// Of a record's sheet, of its n and d, of its rows, of its canonical generators, or of the line of a row, of its
+// letters or of a number by itself. An enum, and no closure: a function that is given one has to ask that it may be
+// called, and `write_thrice` asks for nothing.
+#[derive(Clone, Copy)]
+pub enum Writer {
+    Sheet,
+    Numbers,
+    Families,
+    Canonical,
+    Row(Pauli),
+    Letters(Pauli),
+    Number(usize),
 }
 
 // Of a call that counts the bytes it writes.
-pub fn write_thrice<F: Fn(&mut [u8]) -> Result<usize, Refusal>>(
-    rt: &HostRuntime,
-    used: usize,
-    write: F,
-)
-    requires { F.IsAlwaysCallable write }
-{
-    thrice(rt, used, |out| print_written(rt, write(out)));
+pub fn write_thrice(rt: &HostRuntime, writer: Writer, code: Code, used: usize) {
+    thrice(
+        rt,
+        used,
+        |out| print_written(rt, written(writer, code, out)),
+    );
 }
 
-// A buffer of dots of this length is lent to `write`, and then printed.
-fn lend<F: Fn(&mut [u8])>(rt: &HostRuntime, length: usize, write: &F)
-    requires callable { F.IsAlwaysCallable write.now }
-    requires le_room { length ≤ buffer_room }
-{
-    let mut buffer = dots();
-    let out = &mut buffer[..length];
-    write(&mut *out);
-    print_buffer(rt, out);
+fn written(writer: Writer, code: Code, out: &mut [u8]) -> Result<usize, Refusal> {
+    match writer {
+        Writer::Sheet => writer::write_sheet(code, out),
+        Writer::Numbers => numbers_writer::write_numbers(b"n=", code.n, b"d=", code.d, out),
+        Writer::Families => families_writer::write_families(code, out),
+        Writer::Canonical => canonical::write_canonical(code, out),
+        Writer::Row(row) => row_writer::write_row(b'h', code.n, row, out),
+        Writer::Letters(row) => row_writer::write_letters(b'e', code.n, row, out),
+        Writer::Number(number) => number_writer::write_number(b"n=", number, out),
+    }
 }
